@@ -1,0 +1,3 @@
+pub mod Options
+mod Record
+pub mod Source

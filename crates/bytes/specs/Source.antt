@@ -1,0 +1,14 @@
+-- Parts of a list of bytes. Sums are sums of natural numbers: nothing wraps.
+use mathlib.Core.Bool.{Bool, _||_}
+use mathlib.Core.List.{List}
+use Prim.Native.Nat.{ℕ, _+_}
+use lib.Dec.{eqb, leb}
+use lib.ListN.{take, drop}
+
+-- The part of `size` bytes from `offset` on.
+abbrev pub part : List ℕ → ℕ → ℕ → List ℕ
+part bytes offset size = take size (drop offset bytes)
+
+-- Whether that part lies in a list of `len` bytes. One of size 0 does, at any offset.
+abbrev pub lies : ℕ → ℕ → ℕ → Bool
+lies len offset size = eqb size 0 || leb (offset + size) len
