@@ -28,15 +28,15 @@ pub trait Pod: Copy {
     /// The record at the front of bytes, if they are enough.
     fn cast(bytes: &[u8]) -> Option<Self>
         ensures { λ r. ⌜ BySome r
-              (length (now (bytes .entry)) < width)
-              (λ v. (stored v ≡ take width (now (bytes .entry))) × (width ≤ length (now (bytes .entry)))) ⌝ };
+            (length (now (bytes .entry)) < width)
+            (λ v. (stored v ≡ take width (now (bytes .entry))) × (width ≤ length (now (bytes .entry)))) ⌝ };
 }
 
 /// The record at the front of bytes, and what follows it.
 pub fn from_bytes<T: Pod>(bytes: &[u8]) -> Result<(T, &[u8]), ()>
     ensures { λ r. ⌜ Cases r
-          (λ p. (T·Pod .stored (p .0) ≡ take (T·Pod .width) (now (bytes .entry))) × (now (p .1) ≡ drop (T·Pod .width) (now (bytes .entry))))
-          (λ _. length (now (bytes .entry)) < T·Pod .width) ⌝ }
+        (λ p. (T·Pod .stored (p .0) ≡ take (T·Pod .width) (now (bytes .entry))) × (now (p .1) ≡ drop (T·Pod .width) (now (bytes .entry))))
+        (λ _. length (now (bytes .entry)) < T·Pod .width) ⌝ }
 {
     match T::cast(bytes) {
         Some(record) => Ok((record, &bytes[T::size_of()..])),
@@ -77,8 +77,8 @@ impl<'a, T: Pod> Records<'a, T> {
     /// The record at an index, none past the last.
     pub fn get(&self, index: usize) -> Option<T>
         ensures { λ r. ⌜ BySome r
-              (length (now (now (self .entry) .bytes)) / T·Pod .width ≤ index)
-              (λ v. (T·Pod .stored v ≡ part (now (now (self .entry) .bytes)) (index * T·Pod .width) (T·Pod .width)) × (index < length (now (now (self .entry) .bytes)) / T·Pod .width)) ⌝ }
+            (length (now (now (self .entry) .bytes)) / T·Pod .width ≤ index)
+            (λ v. (T·Pod .stored v ≡ part (now (now (self .entry) .bytes)) (index * T·Pod .width) (T·Pod .width)) × (index < length (now (now (self .entry) .bytes)) / T·Pod .width)) ⌝ }
     {
         let bytes = self.bytes;
         match span(index, T::size_of(), bytes.len()) {
@@ -91,8 +91,8 @@ impl<'a, T: Pod> Records<'a, T> {
 /// The first `count` records, and what follows them.
 pub fn slice_from_bytes<T: Pod>(bytes: &[u8], count: usize) -> Result<(Records<'_, T>, &[u8]), ()>
     ensures { λ r. ⌜ Cases r
-          (λ p. (now (p .0 .bytes) ≡ take (count * T·Pod .width) (now (bytes .entry))) × (now (p .1) ≡ drop (count * T·Pod .width) (now (bytes .entry))) × (count * T·Pod .width ≤ length (now (bytes .entry))))
-          (λ _. length (now (bytes .entry)) < count * T·Pod .width) ⌝ }
+        (λ p. (now (p .0 .bytes) ≡ take (count * T·Pod .width) (now (bytes .entry))) × (now (p .1) ≡ drop (count * T·Pod .width) (now (bytes .entry))) × (count * T·Pod .width ≤ length (now (bytes .entry))))
+        (λ _. length (now (bytes .entry)) < count * T·Pod .width) ⌝ }
 {
     match span(count, T::size_of(), bytes.len()) {
         Some(size) => {
@@ -109,8 +109,8 @@ pub fn slice_from_bytes<T: Pod>(bytes: &[u8], count: usize) -> Result<(Records<'
 /// All of the bytes as records, refused if they are not whole records.
 pub fn slice_from_all_bytes<T: Pod>(bytes: &[u8]) -> Result<Records<'_, T>, ()>
     ensures { λ r. ⌜ Cases r
-          (λ s. (now (s .bytes) ≡ now (bytes .entry)) × (length (now (bytes .entry)) % T·Pod .width ≡ 0))
-          (λ _. (length (now (bytes .entry)) % T·Pod .width ≡ 0 → ⊥)) ⌝ }
+        (λ s. (now (s .bytes) ≡ now (bytes .entry)) × (length (now (bytes .entry)) % T·Pod .width ≡ 0))
+        (λ _. (length (now (bytes .entry)) % T·Pod .width ≡ 0 → ⊥)) ⌝ }
 {
     if bytes.len() % T::size_of() != 0 {
         return Err(());
@@ -124,8 +124,8 @@ pub fn slice_from_all_bytes<T: Pod>(bytes: &[u8]) -> Result<Records<'_, T>, ()>
 /// The record at an offset of a source.
 pub fn read_at<'a, T: Pod, R: ReadRef<'a>>(source: R, offset: u64) -> Result<T, ()>
     ensures { λ r. ⌜ Cases r
-          (λ v. (T·Pod .stored v ≡ part (R·ReadRef .bytes source) offset (T·Pod .width)) × (offset + T·Pod .width ≤ length (R·ReadRef .bytes source)))
-          (λ _. length (R·ReadRef .bytes source) < offset + T·Pod .width) ⌝ }
+        (λ v. (T·Pod .stored v ≡ part (R·ReadRef .bytes source) offset (T·Pod .width)) × (offset + T·Pod .width ≤ length (R·ReadRef .bytes source)))
+        (λ _. length (R·ReadRef .bytes source) < offset + T·Pod .width) ⌝ }
 {
     let bytes = source.read_bytes_at(offset, T::size_of() as u64)?;
     match T::cast(bytes) {
@@ -135,10 +135,14 @@ pub fn read_at<'a, T: Pod, R: ReadRef<'a>>(source: R, offset: u64) -> Result<T, 
 }
 
 /// `count` records from an offset of a source on.
-pub fn read_slice_at<'a, T: Pod, R: ReadRef<'a>>(source: R, offset: u64, count: u64) -> Result<Records<'a, T>, ()>
+pub fn read_slice_at<'a, T: Pod, R: ReadRef<'a>>(
+    source: R,
+    offset: u64,
+    count: u64,
+) -> Result<Records<'a, T>, ()>
     ensures { λ r. ⌜ Cases r
-          (λ s. (now (s .bytes) ≡ part (R·ReadRef .bytes source) offset (count * T·Pod .width)) × (0 < count → offset + count * T·Pod .width ≤ length (R·ReadRef .bytes source)))
-          (λ _. (0 < count) × (length (R·ReadRef .bytes source) < offset + count * T·Pod .width)) ⌝ }
+        (λ s. (now (s .bytes) ≡ part (R·ReadRef .bytes source) offset (count * T·Pod .width)) × (0 < count → offset + count * T·Pod .width ≤ length (R·ReadRef .bytes source)))
+        (λ _. (0 < count) × (length (R·ReadRef .bytes source) < offset + count * T·Pod .width)) ⌝ }
 {
     let Some(size) = span(count as usize, T::size_of(), source.len() as usize) else {
         return Err(());

@@ -20,8 +20,8 @@ pub trait ReadRef<'a>: Copy {
     /// The part of `size` bytes from `offset` on; a part of size 0 is empty wherever it stands.
     fn read_bytes_at(self, offset: u64, size: u64) -> Result<&'a [u8], ()>
         ensures { λ r. ⌜ Cases r
-              (λ s. (now s ≡ part (bytes self) offset size) × (0 < size → offset + size ≤ length (bytes self)))
-              (λ _. (0 < size) × (length (bytes self) < offset + size)) ⌝ };
+            (λ s. (now s ≡ part (bytes self) offset size) × (0 < size → offset + size ≤ length (bytes self)))
+            (λ _. (0 < size) × (length (bytes self) < offset + size)) ⌝ };
 }
 
 pub impl<'a> ReadRef<'a> for &'a [u8] as SliceReadRef {
@@ -57,8 +57,8 @@ impl<'a, R: ReadRef<'a>> Window<R> {
     /// The window of `size` bytes from `start` on. Unlike a part, an empty window has to lie in its source.
     pub fn new(source: R, start: u64, size: u64) -> Result<Window<R>, Fault>
         ensures { λ r. ⌜ Cases r
-              (λ w. (part (R·ReadRef .bytes (w .source)) (w .start) (w .size) ≡ part (R·ReadRef .bytes source) start size) × (start + size ≤ length (R·ReadRef .bytes source)))
-              (λ e. (numbers e ≡ direct 8) × (length (R·ReadRef .bytes source) < start + size)) ⌝ }
+            (λ w. (part (R·ReadRef .bytes (w .source)) (w .start) (w .size) ≡ part (R·ReadRef .bytes source) start size) × (start + size ≤ length (R·ReadRef .bytes source)))
+            (λ e. (numbers e ≡ direct 8) × (length (R·ReadRef .bytes source) < start + size)) ⌝ }
     {
         let len = source.len();
         if start > len || size > len - start {

@@ -28,5 +28,5 @@ module _ (big : Bool) (bs : List ℕ) (k : ℕ) (long : length bs ≡ k) where
   number-big e =
       ap (λ b. number b bs) (sym e)
       ∙ little-sums (reverse bs) (λ j. getD bs (k - 1 - j) 0)
-          (λ j h. getD-reverse bs j 0 (omega (arith, length-reverse bs)) ∙ ap (λ n. getD bs (n - 1 - j) 0) long)
-          0 k (omega (arith, length-reverse bs))
+      (λ j h. getD-reverse bs j 0 (omega (arith, length-reverse bs)) ∙ ap (λ n. getD bs (n - 1 - j) 0) long)
+      0 k (omega (arith, length-reverse bs))

@@ -1,7 +1,11 @@
 -- What a promise sees of a fault: the five numbers that it holds.
+use mathlib.Core.Path.{_≡_}
 use Prim.Native.Nat.{ℕ}
+use Rattle.std.specs.Results.{Cases}
 use Rattle.std.specs.declared.option.Option.{Option}
 use Rattle.std.specs.declared.option.Option.the-variants.{None, Some}
+use Rattle.std.specs.declared.result.Result.{Result}
+use Rattle.std.specs.declared.result.Result.the-variants.{Ok, Err}
 use Rattle.faults.specs.declared.Cause.{Cause}
 use Rattle.faults.specs.declared.Cause.the-variants.{Short, Wide}
 use Rattle.faults.specs.declared.Fault.{Fault}
@@ -63,3 +67,7 @@ numbers f =
 -- A fault of the caller's, or one read directly, has neither cause nor place.
 abbrev pub direct : ℕ → FaultNumbers
 direct n = record { number = n; cause = 0; section = 0; first = 0; second = 0 }
+
+-- An answer is the expected one: its value as `seen`, or its fault by its numbers.
+abbrev pub Gives : {X Y : Type 0} → (X → Y) → Result X Fault → Result Y FaultNumbers → Type 0
+Gives seen r expected = Cases r (λ x. expected ≡ Ok (seen x)) (λ f. expected ≡ Err (numbers f))

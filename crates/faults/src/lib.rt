@@ -95,10 +95,12 @@ impl FaultKind {
             FaultKind::HeaderTableOutside => "the section header table lies outside the source",
             FaultKind::TooManyHeaders => "more than 65535 section headers",
             FaultKind::FirstHeaderRelocates => "the first section header is a relocation section's",
-            FaultKind::ChainTableLength => "the chain's table has not one number for each section header",
+            FaultKind::ChainTableLength =>
+                "the chain's table has not one number for each section header",
             FaultKind::NoSuchSection => "no section has that number",
             FaultKind::TargetRelocates => "the target is a relocation section itself",
-            FaultKind::ChainHeaderCount => "the chain was made for another number of section headers",
+            FaultKind::ChainHeaderCount =>
+                "the chain was made for another number of section headers",
             FaultKind::WindowOutside => "the window reaches past its source",
             FaultKind::SourceTooLong => "the source is longer than 4294967295 bytes",
             FaultKind::InfoOutside => "sh_info is past the last section header",
@@ -113,7 +115,8 @@ impl FaultKind {
             FaultKind::CrelAddend => "a CREL record's addend is unreadable",
             FaultKind::AttributesVersion => "build attributes of an unknown version",
             FaultKind::SubsectionTooShort => "too few bytes for a subsection's length",
-            FaultKind::SubsectionLength => "a subsection's length is under 4 or past the payload's end",
+            FaultKind::SubsectionLength =>
+                "a subsection's length is under 4 or past the payload's end",
             FaultKind::VendorUnended => "a subsection's vendor name has no end",
             FaultKind::BlockTooShort => "too few bytes for a block's tag and length",
             FaultKind::BlockLength => "a block's length is under 5 or past its subsection's end",

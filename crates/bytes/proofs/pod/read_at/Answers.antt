@@ -12,8 +12,7 @@ returns-in-Some g c =
     let width = g .T·Pod .width in
     let some = g .T·Pod·met .some in
     let read = c .in-Continue-bytes .ensures tt in
-    let is = read .0 ∙ ap (part bs (c .args .offset)) (c .size-of .ensures) in
-    (
+    let is = read .0 ∙ ap (part bs (c .args .offset)) (c .size-of .ensures) in (
       c .in-Some .ensures tt .0 ∙ ap (take width) is ∙ take-take width width (drop (c .args .offset) bs) (omega arith),
       omega (arith, some, read .1),
     )

@@ -9,8 +9,7 @@ pub returns-in-Some : need.returns-in-Some
 returns-in-Some g c =
     let bs = c .args .bytes .now in
     let is = c .in-Some .ensures tt .0 ∙ ap (λ w. c .args .count * w) (c .size-of .ensures) in
-    let all : c .in-Some .size - 0 ≡ c .in-Some .size = omega arith in
-    (
+    let all : c .in-Some .size - 0 ≡ c .in-Some .size = omega arith in (
       ap (λ n. take n bs) (all ∙ is),
       take-rest bs (c .in-Some .size) ∙ ap (λ n. drop n bs) is,
       omega (arith, is, c .in-Some .ensures tt .1),

@@ -1,0 +1,3 @@
+pub mod Coverage
+pub mod Object
+pub mod Opened

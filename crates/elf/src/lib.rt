@@ -1,0 +1,3 @@
+//! Objects: section headers and payloads.
+pub mod file;
+pub mod section;
