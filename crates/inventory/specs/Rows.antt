@@ -1,0 +1,57 @@
+-- The inventory of an object: a row for each header of its table, in order.
+use mathlib.Core.Path.{_≡_}
+use mathlib.Core.Bool.{Bool, true, false, cond}
+use mathlib.Core.List.{List, map}
+use Prim.Native.Nat.{ℕ}
+use lib.Dec.{eqb}
+use lib.ListN.{length}
+use Rattle.std.specs.Iters.{counting}
+use Rattle.std.specs.declared.result.Result.{Result}
+use Rattle.std.specs.declared.result.Result.the-variants.{Ok, Err}
+use Rattle.faults.specs.Numbers.{FaultNumbers, numbers, direct}
+use Rattle.classes.specs.declared.Header.{Header}
+use Rattle.elf.specs.Object.{Object, header, tableLies, payload}
+use Rattle.inventory.specs.declared.Failure.{Failure}
+use Rattle.inventory.specs.declared.Failure.the-variants.{Memory, Unreadable}
+use Rattle.inventory.specs.declared.Row.{Row}
+use Rattle.inventory.specs.declared.State.{State}
+use Rattle.inventory.specs.declared.State.the-variants.{Reserved, Read, Damaged}
+
+-- The state of a payload: none, since header 0 is reserved; read, with its length; or damaged, with its fault.
+pub data Payload : Type 0 where
+  reserved : Payload
+  read : ℕ → Payload
+  damaged : FaultNumbers → Payload
+
+pub record Listed : Type 0 where
+  pub index : ℕ
+  pub header : Header
+  pub payload : Payload
+
+abbrev pub told : Result (List ℕ) FaultNumbers → Payload
+told (Ok bytes) = read (length bytes)
+told (Err f) = damaged f
+
+-- The state of the payload at an index of the table.
+abbrev pub stateAt : Object → ℕ → Payload
+stateAt o i = cond (eqb i 0) reserved (told (payload o i))
+
+abbrev pub row : Object → ℕ → Listed
+row o i = record { index = i; header = header o i; payload = stateAt o i }
+
+abbrev pub rows : Object → List Listed
+rows o = map (row o) (counting 0 (o .count))
+
+-- What is seen of a row of the program's.
+abbrev pub state : State → Payload
+state Reserved = reserved
+state (Read n) = read n
+state (Damaged f) = damaged (numbers f)
+
+abbrev pub seen : Row → Listed
+seen r = record { index = r .index; header = r .header; payload = state (r .payload) }
+
+-- Why there are no rows: want of memory, or a table outside the source, which no opened object has.
+abbrev pub Fails : Object → Failure → Type 0
+Fails o Memory = Unit {0}
+Fails o (Unreadable f) = (tableLies o ≡ false) × (numbers f ≡ direct 1)

@@ -1,0 +1,133 @@
+//! The inventory of an object: a row for each section header, with the state of its payload.
+ghost use mathlib.Core.Path.{_≡_};
+ghost use mathlib.Core.Bool.{true, false};
+ghost use mathlib.Core.List.{map};
+ghost use Prim.Native.Nat.{ℕ};
+ghost use denote.Ref.{now};
+ghost use Rattle.std.specs.Of.Vec.{vec-items};
+ghost use Rattle.std.specs.Results.{Cases};
+ghost use Rattle.elf.specs.Object.{tableLies};
+ghost use Rattle.inventory.specs.Rows.{row, rows, seen, state, stateAt, Fails};
+ghost use Rattle.inventory.specs.Summary.{Sums};
+ghost use Rattle.inventory.specs.declared.Failure.the-variants.{Memory, Unreadable};
+use classes::Header;
+use classes::HeaderDebug;
+use classes::HeaderPartialEq;
+use elf::section::Sections;
+use faults::Fault;
+use faults::FaultDebug;
+use faults::FaultPartialEq;
+use faults::SectionIndex;
+use std::alloc::AllocError;
+use std::alloc::Global;
+use std::alloc::Refused;
+
+/// What a section's payload came to.
+#[derive(Clone, Copy, PartialEq, Eq, Debug)]
+pub enum State {
+    /// Header 0 is no section's.
+    Reserved,
+    /// It was read, and has so many bytes.
+    Read(u64),
+    Damaged(Fault),
+}
+
+/// A section header, and the state of its payload.
+#[derive(Clone, Copy, PartialEq, Eq, Debug)]
+pub struct Row {
+    pub index: SectionIndex,
+    pub header: Header,
+    pub payload: State,
+}
+
+/// Why there is no inventory.
+#[derive(Clone, Copy, PartialEq, Eq, Debug)]
+pub enum Failure {
+    Memory,
+    Unreadable(Fault),
+}
+
+pub impl From<AllocError> for Failure as FailureFromAlloc {
+    ghost converts = { λ _ r. r ≡ Memory };
+
+    fn from(_e: AllocError) -> Failure {
+        Failure::Memory
+    }
+}
+
+pub impl<T: Drop> From<Refused<T>> for Failure as FailureFromRefused {
+    ghost converts = { λ _ r. r ≡ Memory };
+
+    fn from(_e: Refused<T>) -> Failure {
+        Failure::Memory
+    }
+}
+
+pub impl From<Fault> for Failure as FailureFromFault {
+    ghost converts = { λ f r. r ≡ Unreadable f };
+
+    fn from(fault: Fault) -> Failure {
+        Failure::Unreadable(fault)
+    }
+}
+
+// The state of the payload at an index of the table.
+fn state_at<'a, O: Sections<'a>>(object: &O, index: SectionIndex) -> State
+    ensures { λ r. ⌜ state r ≡ stateAt (O·Sections .object (now (object .entry))) index ⌝ }
+{
+    if index == 0 {
+        return State::Reserved;
+    }
+    match object.payload(u32::from(index)) {
+        Ok(payload) => State::Read(payload.len() as u64),
+        Err(fault) => State::Damaged(fault),
+    }
+}
+
+/// A row for each header, in the order of the table.
+pub fn rows<'a, O: Sections<'a>>(object: &O, heap: Global) -> Result<Vec<Row>, Failure>
+    ensures { λ r. ⌜ Cases r
+        (λ v. map seen (vec-items v) ≡ rows (O·Sections .object (now (object .entry))))
+        (λ e. Fails (O·Sections .object (now (object .entry))) e) ⌝ }
+{
+    let mut rows = Vec::new(heap);
+    for index in 0..object.count() {
+        let header = object.header(u32::from(index))?;
+        let payload = state_at(object, index);
+        rows.push(Row {
+            index,
+            header,
+            payload,
+        })?;
+    }
+    Ok(rows)
+}
+
+/// How many sections there are, and how many of their payloads are readable and damaged.
+#[derive(Clone, Copy, PartialEq, Eq, Debug)]
+pub struct Summary {
+    pub sections: usize,
+    pub readable: usize,
+    pub damaged: usize,
+}
+
+impl Summary {
+    pub fn of(rows: &[Row]) -> Summary
+        ensures { λ r. ⌜ Sums (now (rows .entry)) r ⌝ }
+    {
+        let mut readable = 0usize;
+        let mut damaged = 0usize;
+        for row in rows {
+            match row.payload {
+                State::Reserved => {}
+                State::Read(_) => readable += 1,
+                State::Damaged(_) => damaged += 1,
+            }
+        }
+        Summary {
+            sections: readable + damaged,
+            readable,
+            damaged,
+        }
+    }
+}
