@@ -1,8 +1,8 @@
 //! The order of the bytes of a number.
 ghost use mathlib.Core.Path.{_≡_};
 ghost use mathlib.Core.Bool.{Bool, true, false, not};
+ghost use Rattle.endian.specs.Chosen.{isBig};
 ghost use Rattle.endian.specs.Order.{number, signed};
-ghost use Rattle.endian.specs.declared.Endianness.the-variants.{Little, Big};
 
 /// A byte order, by whether it is big-endian.
 pub trait Endian: Copy {
@@ -98,7 +98,7 @@ pub enum Endianness {
 }
 
 pub impl Endian for Endianness as EndiannessEndian {
-    ghost big = { λ e. elim e [ Little ↦ false | Big ↦ true ] };
+    ghost big = { isBig };
 
     fn is_big_endian(self) -> bool {
         match self {

@@ -1,2 +1,3 @@
 mod Counts
 mod Listing
+mod Taking

@@ -6,13 +6,20 @@ use Prim.Native.Nat.{ℕ}
 use lib.Dec.{eqb}
 use lib.ListN.{length}
 use Rattle.std.specs.Iters.{counting}
+use Rattle.std.specs.Of.Vec.{vec-items}
+use Rattle.std.specs.Results.{Cases}
+use Rattle.std.specs.declared.alloc.Global.{Global}
+use Rattle.std.specs.declared.vec.Vec.{Vec}
 use Rattle.std.specs.declared.result.Result.{Result}
 use Rattle.std.specs.declared.result.Result.the-variants.{Ok, Err}
 use Rattle.faults.specs.Numbers.{FaultNumbers, numbers, direct}
+use Rattle.classes.specs.Column.{Column, class32, class64}
 use Rattle.classes.specs.declared.Header.{Header}
-use Rattle.elf.specs.Object.{Object, header, tableLies, payload}
+use Rattle.elf.specs.Object.{Object, header, tableLies, payload, opening}
+use Rattle.inventory.specs.declared.ClassName.{ClassName}
+use Rattle.inventory.specs.declared.ClassName.the-variants.{Class32, Class64}
 use Rattle.inventory.specs.declared.Failure.{Failure}
-use Rattle.inventory.specs.declared.Failure.the-variants.{Memory, Unreadable}
+use Rattle.inventory.specs.declared.Failure.the-variants.{Memory, Refused}
 use Rattle.inventory.specs.declared.Row.{Row}
 use Rattle.inventory.specs.declared.State.{State}
 use Rattle.inventory.specs.declared.State.the-variants.{Reserved, Read, Damaged}
@@ -54,4 +61,16 @@ seen r = record { index = r .index; header = r .header; payload = state (r .payl
 -- Why there are no rows: want of memory, or a table outside the source, which no opened object has.
 abbrev pub Fails : Object → Failure → Type 0
 Fails o Memory = Unit {0}
-Fails o (Unreadable f) = (tableLies o ≡ false) × (numbers f ≡ direct 1)
+Fails o (Refused f) = (tableLies o ≡ false) × (numbers f ≡ direct 1)
+
+-- The inventory of the object that was asked for: its rows, or the refusal of its opening.
+abbrev pub RefusedBy : Object → Failure → Type 0
+RefusedBy o Memory = Unit {0}
+RefusedBy o (Refused f) = opening o ≡ Err (numbers f)
+
+abbrev pub Takes : Object → Result (Vec Row Global) Failure → Type 0
+Takes o r = Cases r (λ v. (opening o ≡ Ok o) × (map seen (vec-items v) ≡ rows o)) (RefusedBy o)
+
+abbrev pub columnOf : ClassName → Column
+columnOf Class32 = class32
+columnOf Class64 = class64

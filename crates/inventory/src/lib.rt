@@ -6,21 +6,32 @@ ghost use Prim.Native.Nat.{ℕ};
 ghost use denote.Ref.{now};
 ghost use Rattle.std.specs.Of.Vec.{vec-items};
 ghost use Rattle.std.specs.Results.{Cases};
-ghost use Rattle.elf.specs.Object.{tableLies};
-ghost use Rattle.inventory.specs.Rows.{row, rows, seen, state, stateAt, Fails};
+ghost use Rattle.endian.specs.Chosen.{isBig};
+ghost use Rattle.inventory.specs.Rows.{rows, seen, state, stateAt, Fails, Takes, columnOf};
 ghost use Rattle.inventory.specs.Summary.{Sums};
-ghost use Rattle.inventory.specs.declared.Failure.the-variants.{Memory, Unreadable};
+ghost use Rattle.inventory.specs.declared.Failure.the-variants.{Memory, Refused};
+use bytes::read_ref::SliceReadRef;
+use classes::Class;
 use classes::Header;
 use classes::HeaderDebug;
 use classes::HeaderPartialEq;
+use classes::class32::Class32;
+use classes::class32::Class32Class;
+use classes::class64::Class64;
+use classes::class64::Class64Class;
+use elf::file::ElfFile;
+use elf::file::ElfFileSections;
 use elf::section::Sections;
+use endian::Endian;
+use endian::Endianness;
+use endian::EndiannessEndian;
 use faults::Fault;
 use faults::FaultDebug;
 use faults::FaultPartialEq;
 use faults::SectionIndex;
 use std::alloc::AllocError;
 use std::alloc::Global;
-use std::alloc::Refused;
+use std::alloc::Refused as Unplaced;
 
 /// What a section's payload came to.
 #[derive(Clone, Copy, PartialEq, Eq, Debug)]
@@ -44,7 +55,7 @@ pub struct Row {
 #[derive(Clone, Copy, PartialEq, Eq, Debug)]
 pub enum Failure {
     Memory,
-    Unreadable(Fault),
+    Refused(Fault),
 }
 
 pub impl From<AllocError> for Failure as FailureFromAlloc {
@@ -55,19 +66,19 @@ pub impl From<AllocError> for Failure as FailureFromAlloc {
     }
 }
 
-pub impl<T: Drop> From<Refused<T>> for Failure as FailureFromRefused {
+pub impl<T: Drop> From<Unplaced<T>> for Failure as FailureFromRefused {
     ghost converts = { λ _ r. r ≡ Memory };
 
-    fn from(_e: Refused<T>) -> Failure {
+    fn from(_e: Unplaced<T>) -> Failure {
         Failure::Memory
     }
 }
 
 pub impl From<Fault> for Failure as FailureFromFault {
-    ghost converts = { λ f r. r ≡ Unreadable f };
+    ghost converts = { λ f r. r ≡ Refused f };
 
     fn from(fault: Fault) -> Failure {
-        Failure::Unreadable(fault)
+        Failure::Refused(fault)
     }
 }
 
@@ -101,6 +112,45 @@ pub fn rows<'a, O: Sections<'a>>(object: &O, heap: Global) -> Result<Vec<Row>, F
         })?;
     }
     Ok(rows)
+}
+
+/// The classes by their names.
+#[derive(Clone, Copy, PartialEq, Eq, Debug)]
+pub enum ClassName {
+    Class32,
+    Class64,
+}
+
+// The inventory of an object of one class.
+fn list<C: Class, E: Endian>(
+    bytes: &[u8],
+    class: C,
+    endian: E,
+    table: u64,
+    count: u64,
+    heap: Global,
+) -> Result<Vec<Row>, Failure>
+    ensures { λ r. ⌜ Takes (record { bytes = now (bytes .entry); column = C·Class .column; big = E·Endian .big endian; table = table; count = count }) r ⌝ }
+{
+    let object = ElfFile::open(bytes, class, endian, table, count)?;
+    rows(&object, heap)
+}
+
+/// The inventory of the object in `bytes` whose table of `count` headers starts at `table`.
+pub fn take(
+    bytes: &[u8],
+    class: ClassName,
+    endian: Endianness,
+    table: u64,
+    count: u64,
+    heap: Global,
+) -> Result<Vec<Row>, Failure>
+    ensures { λ r. ⌜ Takes (record { bytes = now (bytes .entry); column = columnOf class; big = isBig endian; table = table; count = count }) r ⌝ }
+{
+    match class {
+        ClassName::Class32 => list(bytes, Class32, endian, table, count, heap),
+        ClassName::Class64 => list(bytes, Class64, endian, table, count, heap),
+    }
 }
 
 /// How many sections there are, and how many of their payloads are readable and damaged.
