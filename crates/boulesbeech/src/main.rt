@@ -1,0 +1,7 @@
+//! The program.
+use commands::Failed;
+use commands::run;
+
+fn main(rt: LibcRuntime) -> Result<(), Failed> {
+    run(&rt)
+}

@@ -1,0 +1,3 @@
+//! Tests of faults, byte orders, sources, windows and fixed records.
+#[cfg(test)]
+mod tests;

@@ -1,0 +1,3 @@
+//! Tests of classes, opening, headers, payloads and the inventory.
+#[cfg(test)]
+mod tests;
