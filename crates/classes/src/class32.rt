@@ -1,20 +1,14 @@
-//! Records of 32-bit objects.
-ghost use mathlib.Core.Path.{_≡_};
-ghost use mathlib.Core.Bool.{Bool};
-ghost use Prim.Native.Nat.{ℕ, _+_, _≤_};
-ghost use lib.IntN.{pos};
-ghost use lib.ListN.{length};
-ghost use denote.Ref.{now};
-ghost use Rattle.bytes.specs.Source.{part};
-ghost use Rattle.classes.specs.Column.{class32, signedField};
+//! Words and section headers of 32-bit objects, and their class.
+ghost use Rattle.classes.specs.Column.{class32};
 use super::Class;
-use super::Rel;
-use super::Rela;
-use super::Relocation;
 use super::SectionHeader;
 use super::Sword;
 use super::Word;
 use super::field;
+use super::rel_records::Rel32;
+use super::rel_records::Rel32Rel;
+use super::rela_records::Rela32;
+use super::rela_records::Rela32Rela;
 use bytes::pod::Pod;
 use endian::Endian;
 
@@ -22,7 +16,7 @@ pub impl Word for u32 as U32Word {
     ghost value = { λ n. n };
 
     fn to_u64(self) -> u64 {
-        self as u64
+        u64::from(self)
     }
 }
 
@@ -30,18 +24,12 @@ pub impl Sword for i32 as I32Sword {
     ghost value = { λ n. n };
 
     fn to_i64(self) -> i64 {
-        self as i64
+        i64::from(self)
     }
 }
 
 #[derive(Clone, Copy)]
 pub struct SectionHeader32([u8; 40]);
-
-#[derive(Clone, Copy)]
-pub struct Rel32([u8; 8]);
-
-#[derive(Clone, Copy)]
-pub struct Rela32([u8; 12]);
 
 pub impl Pod for SectionHeader32 as SectionHeader32Pod {
     ghost width = { 40 };
@@ -55,40 +43,6 @@ pub impl Pod for SectionHeader32 as SectionHeader32Pod {
     fn cast(bytes: &[u8]) -> Option<SectionHeader32> {
         match bytes.first_chunk::<40>() {
             Some(stored) => Some(SectionHeader32(*stored)),
-            None => None,
-        }
-    }
-}
-
-pub impl Pod for Rel32 as Rel32Pod {
-    ghost width = { 8 };
-
-    ghost stored = { λ v. v .0 };
-
-    fn size_of() -> usize {
-        8
-    }
-
-    fn cast(bytes: &[u8]) -> Option<Rel32> {
-        match bytes.first_chunk::<8>() {
-            Some(stored) => Some(Rel32(*stored)),
-            None => None,
-        }
-    }
-}
-
-pub impl Pod for Rela32 as Rela32Pod {
-    ghost width = { 12 };
-
-    ghost stored = { λ v. v .0 };
-
-    fn size_of() -> usize {
-        12
-    }
-
-    fn cast(bytes: &[u8]) -> Option<Rela32> {
-        match bytes.first_chunk::<12>() {
-            Some(stored) => Some(Rela32(*stored)),
             None => None,
         }
     }
@@ -117,54 +71,6 @@ pub impl SectionHeader<u32> for SectionHeader32 as SectionHeader32SectionHeader 
         endian.read_u32(field(&self.0, 28))
     }
 }
-
-pub impl Relocation<u32, i32> for Rel32 as Rel32Relocation {
-    ghost column = { class32 };
-
-    ghost addend = { λ _ _. pos 0 };
-
-    fn r_offset<E: Endian>(&self, endian: E) -> u32 {
-        endian.read_u32(field(&self.0, 0))
-    }
-
-    fn r_sym<E: Endian>(&self, endian: E) -> u32 {
-        endian.read_u32(field(&self.0, 4)) / 256
-    }
-
-    fn r_type<E: Endian>(&self, endian: E) -> u32 {
-        endian.read_u32(field(&self.0, 4)) % 256
-    }
-
-    fn r_addend<E: Endian>(&self, _endian: E) -> i32 {
-        0
-    }
-}
-
-pub impl Rel<u32, i32> for Rel32 as Rel32Rel {}
-
-pub impl Relocation<u32, i32> for Rela32 as Rela32Relocation {
-    ghost column = { class32 };
-
-    ghost addend = { λ big v. signedField big (class32 .r-addend) (v .0) };
-
-    fn r_offset<E: Endian>(&self, endian: E) -> u32 {
-        endian.read_u32(field(&self.0, 0))
-    }
-
-    fn r_sym<E: Endian>(&self, endian: E) -> u32 {
-        endian.read_u32(field(&self.0, 4)) / 256
-    }
-
-    fn r_type<E: Endian>(&self, endian: E) -> u32 {
-        endian.read_u32(field(&self.0, 4)) % 256
-    }
-
-    fn r_addend<E: Endian>(&self, endian: E) -> i32 {
-        endian.read_i32(field(&self.0, 8))
-    }
-}
-
-pub impl Rela<u32, i32> for Rela32 as Rela32Rela {}
 
 /// The class of 32-bit objects.
 #[derive(Clone, Copy)]

@@ -12,6 +12,8 @@ use endian::Endian;
 
 pub mod class32;
 pub mod class64;
+pub mod rel_records;
+pub mod rela_records;
 
 /// An unsigned word of a class.
 pub trait Word: Copy {

@@ -39,11 +39,8 @@ impl<'a, R: ReadRef<'a>, C: Class, E: Endian> ElfFile<R, C, E> {
     fn look(&self, index: usize) -> Result<Option<Header>, ()>
         ensures { λ r. ⌜ Looks (meaning (R·ReadRef .bytes) (C·Class .column) (E·Endian .big) (now (self .entry))) index r ⌝ }
     {
-        let headers = read_slice_at::<C::SectionHeader, R>(
-            self.source,
-            self.table,
-            self.count as u64,
-        )?;
+        let count = self.count as u64;
+        let headers = read_slice_at::<C::SectionHeader, R>(self.source, self.table, count)?;
         match headers.get(index) {
             Some(stored) => Ok(Some(Header::of(&stored, self.endian))),
             None => Ok(None),
