@@ -11,7 +11,7 @@ ghost use Rattle.bytes.specs.Source.{part};
 use crate::read_ref::ReadRef;
 use std::marker::PhantomData;
 
-/// A record of one size above 0, of which any bytes of that size are one value.
+/// A record whose values and whose byte strings of one size, not 0, are the same thing.
 pub trait Pod: Copy {
     ghost width: { ℕ };
 

@@ -164,7 +164,7 @@ pub impl fmt::Display for Report<'_, '_> as ReportDisplay {
         let damaged = summary.damaged;
         writeln!(
             f,
-            "{sections} sections, {readable} readable, {damaged} damaged"
+            "sections: {sections}, readable: {readable}, damaged: {damaged}"
         )
     }
 }
