@@ -7,11 +7,12 @@ ghost use lib.ListN.{length, take, drop};
 ghost use denote.Ref.{now};
 ghost use Rattle.std.specs.Options.{Cases as BySome};
 ghost use Rattle.std.specs.Results.{Cases};
-ghost use Rattle.bytes.specs.Source.{part};
+ghost use Rattle.bytes.specs.Record.{records, recordAt};
+ghost use Rattle.bytes.specs.Source.{part, Lies, Outside};
 use crate::read_ref::ReadRef;
 use std::marker::PhantomData;
 
-/// A record whose values and whose byte strings of one size, not 0, are the same thing.
+/// A record of a fixed number of bytes, at least one; every string of that many bytes is exactly one value.
 pub trait Pod: Copy {
     ghost width: { ℕ };
 
@@ -35,7 +36,7 @@ pub trait Pod: Copy {
 /// The record at the front of bytes, and what follows it.
 pub fn from_bytes<T: Pod>(bytes: &[u8]) -> Result<(T, &[u8]), ()>
     ensures { λ r. ⌜ Cases r
-        (λ p. (T·Pod .stored (p .0) ≡ take (T·Pod .width) (now (bytes .entry))) × (now (p .1) ≡ drop (T·Pod .width) (now (bytes .entry))))
+        (λ p. (T·Pod .stored (p .0) ≡ take (T·Pod .width) (now (bytes .entry))) × (now (p .1) ≡ drop (T·Pod .width) (now (bytes .entry))) × (T·Pod .width ≤ length (now (bytes .entry))))
         (λ _. length (now (bytes .entry)) < T·Pod .width) ⌝ }
 {
     match T::cast(bytes) {
@@ -63,13 +64,13 @@ pub struct Records<'a, T> {
 
 impl<'a, T: Pod> Records<'a, T> {
     pub fn len(&self) -> usize
-        ensures { λ r. ⌜ r ≡ length (now (now (self .entry) .bytes)) / T·Pod .width ⌝ }
+        ensures { λ r. ⌜ r ≡ records (T·Pod .width) (now (now (self .entry) .bytes)) ⌝ }
     {
         self.bytes.len() / T::size_of()
     }
 
     pub fn is_empty(&self) -> bool
-        ensures { λ r. ⌜ r ≡ eqb (length (now (now (self .entry) .bytes)) / T·Pod .width) 0 ⌝ }
+        ensures { λ r. ⌜ r ≡ eqb (records (T·Pod .width) (now (now (self .entry) .bytes))) 0 ⌝ }
     {
         self.len() == 0
     }
@@ -77,8 +78,8 @@ impl<'a, T: Pod> Records<'a, T> {
     /// The record at an index, none past the last.
     pub fn get(&self, index: usize) -> Option<T>
         ensures { λ r. ⌜ BySome r
-            (length (now (now (self .entry) .bytes)) / T·Pod .width ≤ index)
-            (λ v. (T·Pod .stored v ≡ part (now (now (self .entry) .bytes)) (index * T·Pod .width) (T·Pod .width)) × (index < length (now (now (self .entry) .bytes)) / T·Pod .width)) ⌝ }
+            (records (T·Pod .width) (now (now (self .entry) .bytes)) ≤ index)
+            (λ v. (T·Pod .stored v ≡ recordAt (T·Pod .width) (now (now (self .entry) .bytes)) index) × (index < records (T·Pod .width) (now (now (self .entry) .bytes)))) ⌝ }
     {
         let bytes = self.bytes;
         match span(index, T::size_of(), bytes.len()) {
@@ -141,8 +142,8 @@ pub fn read_slice_at<'a, T: Pod, R: ReadRef<'a>>(
     count: u64,
 ) -> Result<Records<'a, T>, ()>
     ensures { λ r. ⌜ Cases r
-        (λ s. (now (s .bytes) ≡ part (R·ReadRef .bytes source) offset (count * T·Pod .width)) × (0 < count → offset + count * T·Pod .width ≤ length (R·ReadRef .bytes source)))
-        (λ _. (0 < count) × (length (R·ReadRef .bytes source) < offset + count * T·Pod .width)) ⌝ }
+        (λ s. (now (s .bytes) ≡ part (R·ReadRef .bytes source) offset (count * T·Pod .width)) × Lies (length (R·ReadRef .bytes source)) offset (count * T·Pod .width))
+        (λ _. Outside (length (R·ReadRef .bytes source)) offset (count * T·Pod .width)) ⌝ }
 {
     let Some(size) = span(count as usize, T::size_of(), source.len() as usize) else {
         return Err(());

@@ -6,7 +6,7 @@ ghost use lib.ListN.{length};
 ghost use denote.Ref.{now};
 ghost use Rattle.std.specs.Results.{Cases};
 ghost use Rattle.faults.specs.Numbers.{numbers, direct};
-ghost use Rattle.bytes.specs.Source.{part};
+ghost use Rattle.bytes.specs.Source.{part, Lies, Outside};
 use faults::Fault;
 use faults::FaultKind;
 
@@ -20,8 +20,8 @@ pub trait ReadRef<'a>: Copy {
     /// The part of `size` bytes from `offset` on; a part of size 0 is empty wherever it stands.
     fn read_bytes_at(self, offset: u64, size: u64) -> Result<&'a [u8], ()>
         ensures { λ r. ⌜ Cases r
-            (λ s. (now s ≡ part (bytes self) offset size) × (0 < size → offset + size ≤ length (bytes self)))
-            (λ _. (0 < size) × (length (bytes self) < offset + size)) ⌝ };
+            (λ s. (now s ≡ part (bytes self) offset size) × Lies (length (bytes self)) offset size)
+            (λ _. Outside (length (bytes self)) offset size) ⌝ };
 }
 
 pub impl<'a> ReadRef<'a> for &'a [u8] as SliceReadRef {

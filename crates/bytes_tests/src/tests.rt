@@ -203,7 +203,7 @@ fn a_fault_tells_its_number_what_and_where(rt: LibcRuntime) -> Result<(), Fail> 
     let text = format!(heap, "{fault}")?;
     check(text.as_str() == "fault 12: the payload lies outside the source, in section 4")?;
     let fault = Fault {
-        kind: FaultKind::CrelSymbol,
+        kind: FaultKind::CrelSymbolUnreadable,
         cause: Some(Cause::Short),
         section: 7,
         ordinals: (2, 0),
@@ -214,7 +214,7 @@ fn a_fault_tells_its_number_what_and_where(rt: LibcRuntime) -> Result<(), Fail> 
             == "fault 17: a CREL record's symbol is unreadable (a number ran out of bytes), in section 7, record 2",
     )?;
     let fault = Fault {
-        kind: FaultKind::BadIndex,
+        kind: FaultKind::IndexTooWide,
         cause: Some(Cause::Wide),
         section: 9,
         ordinals: (1, 3),

@@ -87,11 +87,11 @@ pub impl Relocation<u64, i64> for Rel64 as Rel64Relocation {
     }
 
     fn r_sym<E: Endian>(&self, endian: E) -> u32 {
-        ((endian.read_u64(field(&self.0, 8)) / 4294967296) as u32) as u32
+        (endian.read_u64(field(&self.0, 8)) / 4294967296) as u32
     }
 
     fn r_type<E: Endian>(&self, endian: E) -> u32 {
-        ((endian.read_u64(field(&self.0, 8)) % 4294967296) as u32) as u32
+        (endian.read_u64(field(&self.0, 8)) % 4294967296) as u32
     }
 
     fn r_addend<E: Endian>(&self, _endian: E) -> i64 {

@@ -1,11 +1,13 @@
 //! What the program does with its words.
+ghost use Rattle.inventory.specs.Rows.{Takes, asked};
 use faults::Fault;
 use faults::FaultDisplay;
 use inventory::Failure;
+use inventory::Row;
 use inventory::take;
 use report::Report;
 use report::ReportDisplay;
-use std::alloc::AllocError;
+use std::alloc::Global;
 use std::env;
 use std::fmt;
 use std::fs;
@@ -92,14 +94,7 @@ fn inventory_of<'w>(rt: &LibcRuntime, request: Request<'w>) -> Result<String, Pr
         Ok(bytes) => bytes,
         Err(error) => return Err(Problem::File(request.file, error)),
     };
-    let rows = match take(
-        bytes.as_slice(),
-        request.class,
-        request.order,
-        request.table,
-        request.count,
-        heap,
-    ) {
+    let rows = match listed(bytes.as_slice(), request, heap) {
         Ok(rows) => rows,
         Err(Failure::Refused(fault)) => return Err(Problem::Refused(request, bytes.len(), fault)),
         Err(Failure::Memory) => return Err(Problem::Memory),
@@ -115,34 +110,50 @@ fn inventory_of<'w>(rt: &LibcRuntime, request: Request<'w>) -> Result<String, Pr
     }
 }
 
+// The rows of the object that is asked for, out of the bytes of its file.
+fn listed(bytes: &[u8], request: Request<'_>, heap: Global) -> Result<Vec<Row>, Failure>
+    ensures { λ r. ⌜ Takes (asked (now (bytes .entry)) (request .entry .class) (request .entry .order) (request .entry .table) (request .entry .count)) r ⌝ }
+{
+    take(
+        bytes,
+        request.class,
+        request.order,
+        request.table,
+        request.count,
+        heap,
+    )
+}
+
 /// The program failed, and said why.
 #[derive(Clone, Copy, Debug)]
 pub struct Failed;
 
-pub impl From<io::Error> for Failed as FailedFromIo {
-    fn from(error: io::Error) -> Failed {
-        drop(error);
-        Failed
-    }
+fn complain<D: fmt::Display + Drop>(rt: &LibcRuntime, problem: D) -> Result<(), Failed> {
+    let _ = eprintln!(rt, "boulesbeech: {problem}");
+    Err(Failed)
 }
 
-pub impl From<AllocError> for Failed as FailedFromAlloc {
-    fn from(_error: AllocError) -> Failed {
-        Failed
-    }
+// The words behind the program's name.
+fn words_of(rt: &LibcRuntime) -> io::Result<Vec<String>> {
+    let mut words = env::args(rt)?;
+    let _name = words.next();
+    Ok(words.collect(rt.alloc())?)
 }
 
 /// Answers the words that the program was called with: on standard output, or why not on standard error.
 pub fn run(rt: &LibcRuntime) -> Result<(), Failed> {
-    let mut words = env::args(rt)?;
-    let _name = words.next();
-    let words: Vec<String> = words.collect(rt.alloc())?;
+    let words = match words_of(rt) {
+        Ok(words) => words,
+        Err(error) => return complain(
+            rt,
+            format_args!("the arguments are not readable as UTF-8 text: {error}"),
+        ),
+    };
     match answer(rt, words.as_slice()) {
-        Ok(text) => rt.print(text)?,
-        Err(problem) => {
-            eprintln!(rt, "boulesbeech: {problem}")?;
-            return Err(Failed);
-        }
+        Ok(text) => match rt.print(text) {
+            Ok(()) => Ok(()),
+            Err(error) => complain(rt, format_args!("standard output: {error}")),
+        },
+        Err(problem) => complain(rt, problem),
     }
-    Ok(())
 }

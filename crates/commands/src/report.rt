@@ -1,4 +1,9 @@
 //! The inventory as text.
+ghost use mathlib.Core.Path.{_≡_};
+ghost use mathlib.Core.List.{map};
+ghost use denote.Ref.{now as behind};
+ghost use Rattle.std.specs.Options.{mapped};
+ghost use Rattle.commands.specs.Names.{named, typeName};
 use super::words::Request;
 use endian::Endianness;
 use faults::FaultDisplay;
@@ -17,38 +22,55 @@ pub struct Report<'w, 'r> {
     pub rows: &'r [Row],
 }
 
-// The format's name of a section type, or of the range that it lies in.
-fn type_name(sh_type: u32) -> &'static str {
-    match sh_type {
-        0 => "NULL",
-        1 => "PROGBITS",
-        2 => "SYMTAB",
-        3 => "STRTAB",
-        4 => "RELA",
-        5 => "HASH",
-        6 => "DYNAMIC",
-        7 => "NOTE",
-        8 => "NOBITS",
-        9 => "REL",
-        10 => "SHLIB",
-        11 => "DYNSYM",
-        14 => "INIT_ARRAY",
-        15 => "FINI_ARRAY",
-        16 => "PREINIT_ARRAY",
-        17 => "GROUP",
-        18 => "SYMTAB_SHNDX",
-        19 => "RELR",
-        1073741844 => "CREL",
-        1879048181 => "GNU_ATTRIBUTES",
-        1879048182 => "GNU_HASH",
-        1879048183 => "GNU_LIBLIST",
-        1879048189 => "GNU_VERDEF",
-        1879048190 => "GNU_VERNEED",
-        1879048191 => "GNU_VERSYM",
-        0x6000_0000..=0x6fff_ffff => "(system)",
-        0x7000_0000..=0x7fff_ffff => "(processor)",
-        0x8000_0000..=0xffff_ffff => "(user)",
-        _ => "(unknown)",
+const NAMES: [(u32, &str); 25] = [
+    (0, "NULL"),
+    (1, "PROGBITS"),
+    (2, "SYMTAB"),
+    (3, "STRTAB"),
+    (4, "RELA"),
+    (5, "HASH"),
+    (6, "DYNAMIC"),
+    (7, "NOTE"),
+    (8, "NOBITS"),
+    (9, "REL"),
+    (10, "SHLIB"),
+    (11, "DYNSYM"),
+    (14, "INIT_ARRAY"),
+    (15, "FINI_ARRAY"),
+    (16, "PREINIT_ARRAY"),
+    (17, "GROUP"),
+    (18, "SYMTAB_SHNDX"),
+    (19, "RELR"),
+    (1073741844, "CREL"),
+    (1879048181, "GNU_ATTRIBUTES"),
+    (1879048182, "GNU_HASH"),
+    (1879048183, "GNU_LIBLIST"),
+    (1879048189, "GNU_VERDEF"),
+    (1879048190, "GNU_VERNEED"),
+    (1879048191, "GNU_VERSYM"),
+];
+
+fn named(names: &[(u32, &'static str)], sh_type: u32) -> Option<&'static str>
+    ensures { λ r. ⌜ mapped behind r ≡ named (map (λ p. (p .0, behind (p .1))) (now (names .entry))) «sh_type» ⌝ }
+{
+    for (number, name) in names {
+        if *number == sh_type {
+            return Some(*name);
+        }
+    }
+    None
+}
+
+// The name of a section type, or of the range that it lies in.
+fn type_name(sh_type: u32) -> &'static str
+    ensures { λ r. ⌜ now r ≡ typeName «sh_type» ⌝ }
+{
+    match named(&NAMES, sh_type) {
+        Some(name) => name,
+        None if sh_type >= 0x8000_0000 => "(user)",
+        None if sh_type >= 0x7000_0000 => "(processor)",
+        None if sh_type >= 0x6000_0000 => "(system)",
+        None => "(unknown)",
     }
 }
 

@@ -4,14 +4,14 @@ use mathlib.Core.Bool.{Bool, true, false, cond}
 use mathlib.Core.List.{List}
 use mathlib.Core.Logic.{inl, inr}
 use Prim.Native.Nat.{ℕ, _+_, _-_, _*_, _/_, _<_, _≤_, min}
-use native.Mathlib.Nat.{mul-div-left, mul-pos, zero-mul, add-mul}
+use native.Mathlib.Nat.{mul-div-left, add-mul}
 use native.Mathlib.Omega.{arith}
 use lib.Dec.{eqb, leb, ltb}
 use lib.ListN.{length}
 use Rattle.std.proofs.shelf.Bits.{mul-le}
 use Rattle.std.specs.declared.option.Option.the-variants.{None, Some}
 use Rattle.std.proofs.shelf.Tests.{cases-eq, eq-eqb, ne-eqb, le-leb, lt-leb, lt-ltb, le-ltb, or-left, or-right, or-from, cond-true, cond-false}
-use Rattle.bytes.specs.Source.{part}
+use Rattle.bytes.specs.Source.{part, Lies, Outside}
 use Rattle.bytes.proofs.Source.{length-part, part-part}
 use Rattle.classes.specs.Column.{Column, decoded}
 use Rattle.classes.specs.declared.Header.{Header}
@@ -21,23 +21,22 @@ module _ (o : Object) (width : ℕ) (wide : width ≡ o .column .header) (some :
   size : o .count * width ≡ o .count * o .column .header
   size = ap (λ w. o .count * w) wide
 
-  pub lies-true : (0 < o .count → o .table + o .count * width ≤ length (o .bytes)) → tableLies o ≡ true
+  pub lies-true : Lies (length (o .bytes)) (o .table) (o .count * width) → tableLies o ≡ true
   lies-true fits =
-      elim (cases-eq (o .count) 0) [
-        | inl e ↦ or-left _ _ (eq-eqb (o .count * o .column .header) 0 (ap (λ n. n * o .column .header) e ∙ zero-mul (o .column .header)))
+      elim (cases-eq (o .count * width) 0) [
+        | inl e ↦ or-left _ _ (eq-eqb (o .count * o .column .header) 0 (sym size ∙ e))
         | inr n ↦ or-right _ _ (le-leb (o .table + o .count * o .column .header) (length (o .bytes)) (omega (arith, size, fits (omega arith))))
       ]
 
-  pub lies-false : 0 < o .count → length (o .bytes) < o .table + o .count * width → tableLies o ≡ false
-  lies-false more past =
-      let all : 0 < o .count * width = mul-pos more some in
-      or-from _ _ (ne-eqb (o .count * o .column .header) 0 (λ e. omega (arith, size, all, e))) (lt-leb (o .table + o .count * o .column .header) (length (o .bytes)) (omega (arith, size)))
+  pub lies-false : Outside (length (o .bytes)) (o .table) (o .count * width) → tableLies o ≡ false
+  lies-false out =
+      or-from _ _ (ne-eqb (o .count * o .column .header) 0 (λ e. omega (arith, size, out .0, e))) (lt-leb (o .table + o .count * o .column .header) (length (o .bytes)) (omega (arith, size, out .1)))
 
-  module _ (held : List ℕ) (is : held ≡ part (o .bytes) (o .table) (o .count * width)) (fits : 0 < o .count → o .table + o .count * width ≤ length (o .bytes)) where
+  module _ (held : List ℕ) (is : held ≡ part (o .bytes) (o .table) (o .count * width)) (fits : Lies (length (o .bytes)) (o .table) (o .count * width)) where
     whole : length held ≡ o .count * width
     whole =
-        ap length is ∙ length-part (o .bytes) (o .table) (o .count * width) ∙ elim (cases-eq (o .count) 0) [
-          | inl e ↦ let none : o .count * width ≡ 0 = ap (λ n. n * width) e ∙ zero-mul width in omega (arith, none)
+        ap length is ∙ length-part (o .bytes) (o .table) (o .count * width) ∙ elim (cases-eq (o .count * width) 0) [
+          | inl e ↦ omega (arith, e)
           | inr n ↦ omega (arith, fits (omega arith))
         ]
 

@@ -2,7 +2,7 @@
 use mathlib.Core.Bool.{Bool, true, false, cond, not, _&&_, _||_}
 use mathlib.Core.List.{List, []}
 use Prim.Native.Nat.{ℕ, _+_, _*_}
-use lib.Dec.{eqb, leb, ltb}
+use lib.Dec.{eqb, ltb}
 use lib.ListN.{length}
 use Rattle.std.specs.declared.result.Result.{Result}
 use Rattle.std.specs.declared.result.Result.the-variants.{Ok, Err}
@@ -48,7 +48,7 @@ opening o =
 -- The header at an index of the table, 0 too. Fault 1 never comes from an opened object.
 abbrev pub headerAt : Object → ℕ → Result Header FaultNumbers
 headerAt o i =
-    cond (tableLies o) (cond (ltb i (o .count)) (Ok (header o i)) (Err (direct 5))) (Err (direct 1))
+    cond (ltb i (o .count)) (cond (tableLies o) (Ok (header o i)) (Err (direct 1))) (Err (direct 5))
 
 -- The header of a section: header 0 is no section's.
 abbrev pub section : Object → ℕ → Result Header FaultNumbers
@@ -62,7 +62,7 @@ bare h = eqb (h .«sh_type») 8 || eqb (h .«sh_size») 0
 abbrev pub payloadOf : List ℕ → Header → Result (List ℕ) FaultNumbers
 payloadOf bytes h =
     cond (bare h) (Ok [])
-    (cond (leb (h .«sh_offset» + h .«sh_size») (length bytes)) (Ok (part bytes (h .«sh_offset») (h .«sh_size»)))
+    (cond (lies (length bytes) (h .«sh_offset») (h .«sh_size»)) (Ok (part bytes (h .«sh_offset») (h .«sh_size»)))
     (Err (direct 12)))
 
 -- one answer from another, faults handed on

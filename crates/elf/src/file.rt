@@ -17,6 +17,7 @@ use classes::Header;
 use endian::Endian;
 use faults::Fault;
 use faults::FaultKind;
+use faults::SectionIndex;
 
 /// The longest source that is opened.
 pub const MAX_SOURCE: u64 = 4294967295;
@@ -31,7 +32,7 @@ pub struct ElfFile<R, C, E> {
     class: C,
     endian: E,
     table: u64,
-    count: u16,
+    count: SectionIndex,
 }
 
 impl<'a, R: ReadRef<'a>, C: Class, E: Endian> ElfFile<R, C, E> {
@@ -70,7 +71,7 @@ impl<'a, R: ReadRef<'a>, C: Class, E: Endian> ElfFile<R, C, E> {
             class,
             endian,
             table,
-            count: count as u16,
+            count: count as SectionIndex,
         };
         match file.look(0) {
             Err(()) => Err(Fault::direct(FaultKind::HeaderTableOutside)),
@@ -89,15 +90,17 @@ pub impl<'a, R: ReadRef<'a>, C: Class, E: Endian> Sections<'a> for ElfFile<
 > as ElfFileSections {
     ghost object = { meaning (R·ReadRef .bytes) (C·Class .column) (E·Endian .big) };
 
-    fn count(&self) -> u16 {
+    fn count(&self) -> SectionIndex {
         self.count
     }
 
     fn header(&self, index: u32) -> Result<Header, Fault> {
+        if index >= self.count as u32 {
+            return Err(Fault::direct(FaultKind::NoSuchSection));
+        }
         match self.look(index as usize) {
             Ok(Some(header)) => Ok(header),
-            Ok(None) => Err(Fault::direct(FaultKind::NoSuchSection)),
-            Err(()) => Err(Fault::direct(FaultKind::HeaderTableOutside)),
+            _ => Err(Fault::direct(FaultKind::HeaderTableOutside)),
         }
     }
 
@@ -109,9 +112,7 @@ pub impl<'a, R: ReadRef<'a>, C: Class, E: Endian> Sections<'a> for ElfFile<
     }
 
     fn payload(&self, index: u32) -> Result<&'a [u8], Fault> {
-        match self.section(index) {
-            Ok(header) => data(&header, self.source),
-            Err(fault) => Err(fault),
-        }
+        let header = self.section(index)?;
+        data(&header, self.source)
     }
 }

@@ -4,13 +4,14 @@ ghost use mathlib.Core.Bool.{Bool};
 ghost use Prim.Native.Nat.{ℕ};
 ghost use denote.Ref.{now};
 ghost use Rattle.faults.specs.Numbers.{Gives};
-ghost use Rattle.std.specs.Vec.{made};
-ghost use Rattle.elf.specs.Coverage.{Covered};
+ghost use Rattle.std.specs.Results.{Cases};
+ghost use Rattle.elf.specs.Coverage.{Covered, Uncovered};
 ghost use Rattle.elf.specs.Object.{Object, relocates, headerAt, section, payload, payloadOf};
 use bytes::read_ref::ReadRef;
 use classes::Header;
 use faults::Fault;
 use faults::FaultKind;
+use faults::SectionIndex;
 
 pub const SHT_RELA: u32 = 4;
 
@@ -45,7 +46,7 @@ pub trait Sections<'a>: Copy {
     ghost object: { Self → Object };
 
     /// How many headers there are.
-    fn count(&self) -> u16
+    fn count(&self) -> SectionIndex
         ensures { λ r. ⌜ r ≡ object (now (self .entry)) .count ⌝ };
 
     /// The header at an index of the table, of which 0 is reserved.
@@ -59,5 +60,5 @@ pub trait Sections<'a>: Copy {
     /// The payload of a section.
     fn payload(&self, index: u32) -> Result<&'a [u8], Fault>
         ensures result { λ r. ⌜ Gives now r (payload (object (now (self .entry))) index) ⌝ }
-        ensures covered { λ r. ⌜ made r (λ s. Covered (object (now (self .entry))) index (now s)) ⌝ };
+        ensures covered { λ r. ⌜ Cases r (λ s. Covered (object (now (self .entry))) index (now s)) (λ _. Uncovered (object (now (self .entry))) index) ⌝ };
 }

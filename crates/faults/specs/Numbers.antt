@@ -10,41 +10,41 @@ use Rattle.faults.specs.declared.Cause.{Cause}
 use Rattle.faults.specs.declared.Cause.the-variants.{Short, Wide}
 use Rattle.faults.specs.declared.Fault.{Fault}
 use Rattle.faults.specs.declared.FaultKind.{FaultKind}
-use Rattle.faults.specs.declared.FaultKind.the-variants.{HeaderTableOutside, TooManyHeaders, FirstHeaderRelocates, ChainTableLength, NoSuchSection, TargetRelocates, ChainHeaderCount, WindowOutside, SourceTooLong, InfoOutside, InfoRelocates, PayloadOutside, NotWholeRecords, GroupLength, CrelHeader, CrelOffset, CrelSymbol, CrelType, CrelAddend, AttributesVersion, SubsectionTooShort, SubsectionLength, VendorUnended, BlockTooShort, BlockLength, IndexListUnended, BlockTag, BadIndex, AttributeTag, AttributeInteger, AttributeString, ForeignChain}
+use Rattle.faults.specs.declared.FaultKind.the-variants.{HeaderTableOutside, TooManyHeaders, FirstHeaderRelocates, ChainTableWrongLength, NoSuchSection, TargetRelocates, ChainOfOtherCount, WindowOutside, SourceTooLong, InfoOutside, InfoRelocates, PayloadOutside, PayloadNotWholeRecords, GroupNotWholeWords, CrelHeaderUnreadable, CrelOffsetUnreadable, CrelSymbolUnreadable, CrelTypeUnreadable, CrelAddendUnreadable, AttributesVersionUnknown, SubsectionTooShort, SubsectionLengthWrong, VendorUnended, BlockTooShort, BlockLengthWrong, IndexListUnended, BlockTagUnknown, IndexTooWide, AttributeTagUnreadable, AttributeIntegerUnreadable, AttributeStringUnended, ForeignChain}
 
 -- The number of each kind of fault. 1 to 9 and 32 are the caller's, 10 to 31 the file's.
 abbrev pub number : FaultKind → ℕ
 number HeaderTableOutside = 1
 number TooManyHeaders = 2
 number FirstHeaderRelocates = 3
-number ChainTableLength = 4
+number ChainTableWrongLength = 4
 number NoSuchSection = 5
 number TargetRelocates = 6
-number ChainHeaderCount = 7
+number ChainOfOtherCount = 7
 number WindowOutside = 8
 number SourceTooLong = 9
 number InfoOutside = 10
 number InfoRelocates = 11
 number PayloadOutside = 12
-number NotWholeRecords = 13
-number GroupLength = 14
-number CrelHeader = 15
-number CrelOffset = 16
-number CrelSymbol = 17
-number CrelType = 18
-number CrelAddend = 19
-number AttributesVersion = 20
+number PayloadNotWholeRecords = 13
+number GroupNotWholeWords = 14
+number CrelHeaderUnreadable = 15
+number CrelOffsetUnreadable = 16
+number CrelSymbolUnreadable = 17
+number CrelTypeUnreadable = 18
+number CrelAddendUnreadable = 19
+number AttributesVersionUnknown = 20
 number SubsectionTooShort = 21
-number SubsectionLength = 22
+number SubsectionLengthWrong = 22
 number VendorUnended = 23
 number BlockTooShort = 24
-number BlockLength = 25
+number BlockLengthWrong = 25
 number IndexListUnended = 26
-number BlockTag = 27
-number BadIndex = 28
-number AttributeTag = 29
-number AttributeInteger = 30
-number AttributeString = 31
+number BlockTagUnknown = 27
+number IndexTooWide = 28
+number AttributeTagUnreadable = 29
+number AttributeIntegerUnreadable = 30
+number AttributeStringUnended = 31
 number ForeignChain = 32
 
 -- The cause: 1 where a number ran out of bytes, 2 where it was too wide, else 0.

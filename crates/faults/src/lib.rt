@@ -1,88 +1,93 @@
 //! What can be wrong with an object, or with what a caller asks of it.
 ghost use mathlib.Core.Path.{_≡_};
-ghost use Prim.Native.Nat.{ℕ};
+ghost use mathlib.Core.List.{[], map};
+ghost use Prim.Native.Nat.{_<_, _≤_};
+ghost use lib.ListN.{length, getD};
+ghost use denote.Ref.{now as behind};
+ghost use Rattle.std.specs.Orderings.{Decides};
 ghost use Rattle.faults.specs.Numbers.{number, causeNumber, numbers, direct};
 ghost use Rattle.std.specs.declared.option.Option.the-variants.{Some};
 ghost use Rattle.faults.specs.Texts.{happened, why, place, whereabouts, text};
 use std::fmt;
 
-/// The number of a section that is there.
+/// The number of a section that is there, and how many section headers there are.
 pub type SectionIndex = u16;
 
 /// What happened. `number` has the number of each.
-#[derive(Clone, Copy, PartialEq, Eq, Debug)]
+#[derive(Clone, Copy, Eq, Debug)]
 pub enum FaultKind {
     HeaderTableOutside,
     TooManyHeaders,
     FirstHeaderRelocates,
-    ChainTableLength,
+    ChainTableWrongLength,
     NoSuchSection,
     TargetRelocates,
-    ChainHeaderCount,
+    ChainOfOtherCount,
     WindowOutside,
     SourceTooLong,
     InfoOutside,
     InfoRelocates,
     PayloadOutside,
-    NotWholeRecords,
-    GroupLength,
-    CrelHeader,
-    CrelOffset,
-    CrelSymbol,
-    CrelType,
-    CrelAddend,
-    AttributesVersion,
+    PayloadNotWholeRecords,
+    GroupNotWholeWords,
+    CrelHeaderUnreadable,
+    CrelOffsetUnreadable,
+    CrelSymbolUnreadable,
+    CrelTypeUnreadable,
+    CrelAddendUnreadable,
+    AttributesVersionUnknown,
     SubsectionTooShort,
-    SubsectionLength,
+    SubsectionLengthWrong,
     VendorUnended,
     BlockTooShort,
-    BlockLength,
+    BlockLengthWrong,
     IndexListUnended,
-    BlockTag,
-    BadIndex,
-    AttributeTag,
-    AttributeInteger,
-    AttributeString,
+    BlockTagUnknown,
+    IndexTooWide,
+    AttributeTagUnreadable,
+    AttributeIntegerUnreadable,
+    AttributeStringUnended,
     ForeignChain,
 }
 
 impl FaultKind {
     /// The fault's number, 1 to 32.
     pub fn number(self) -> u8
-        ensures { λ r. ⌜ r ≡ number self ⌝ }
+        ensures value { λ r. ⌜ r ≡ number self ⌝ }
+        ensures bound { λ r. ⌜ (0 < r) × (r ≤ 32) ⌝ }
     {
         match self {
             FaultKind::HeaderTableOutside => 1,
             FaultKind::TooManyHeaders => 2,
             FaultKind::FirstHeaderRelocates => 3,
-            FaultKind::ChainTableLength => 4,
+            FaultKind::ChainTableWrongLength => 4,
             FaultKind::NoSuchSection => 5,
             FaultKind::TargetRelocates => 6,
-            FaultKind::ChainHeaderCount => 7,
+            FaultKind::ChainOfOtherCount => 7,
             FaultKind::WindowOutside => 8,
             FaultKind::SourceTooLong => 9,
             FaultKind::InfoOutside => 10,
             FaultKind::InfoRelocates => 11,
             FaultKind::PayloadOutside => 12,
-            FaultKind::NotWholeRecords => 13,
-            FaultKind::GroupLength => 14,
-            FaultKind::CrelHeader => 15,
-            FaultKind::CrelOffset => 16,
-            FaultKind::CrelSymbol => 17,
-            FaultKind::CrelType => 18,
-            FaultKind::CrelAddend => 19,
-            FaultKind::AttributesVersion => 20,
+            FaultKind::PayloadNotWholeRecords => 13,
+            FaultKind::GroupNotWholeWords => 14,
+            FaultKind::CrelHeaderUnreadable => 15,
+            FaultKind::CrelOffsetUnreadable => 16,
+            FaultKind::CrelSymbolUnreadable => 17,
+            FaultKind::CrelTypeUnreadable => 18,
+            FaultKind::CrelAddendUnreadable => 19,
+            FaultKind::AttributesVersionUnknown => 20,
             FaultKind::SubsectionTooShort => 21,
-            FaultKind::SubsectionLength => 22,
+            FaultKind::SubsectionLengthWrong => 22,
             FaultKind::VendorUnended => 23,
             FaultKind::BlockTooShort => 24,
-            FaultKind::BlockLength => 25,
+            FaultKind::BlockLengthWrong => 25,
             FaultKind::IndexListUnended => 26,
-            FaultKind::BlockTag => 27,
-            FaultKind::BadIndex => 28,
-            FaultKind::AttributeTag => 29,
-            FaultKind::AttributeInteger => 30,
-            FaultKind::AttributeString => 31,
+            FaultKind::BlockTagUnknown => 27,
+            FaultKind::IndexTooWide => 28,
+            FaultKind::AttributeTagUnreadable => 29,
+            FaultKind::AttributeIntegerUnreadable => 30,
+            FaultKind::AttributeStringUnended => 31,
             FaultKind::ForeignChain => 32,
         }
     }
@@ -91,44 +96,59 @@ impl FaultKind {
     pub fn what(self) -> &'static str
         ensures { λ r. ⌜ now r ≡ happened self ⌝ }
     {
-        match self {
-            FaultKind::HeaderTableOutside => "the section header table lies outside the source",
-            FaultKind::TooManyHeaders => "more than 65535 section headers",
-            FaultKind::FirstHeaderRelocates => "the first section header is a relocation section's",
-            FaultKind::ChainTableLength =>
-                "the chain's table has not one number for each section header",
-            FaultKind::NoSuchSection => "no section has that number",
-            FaultKind::TargetRelocates => "the target is a relocation section itself",
-            FaultKind::ChainHeaderCount =>
-                "the chain was made for another number of section headers",
-            FaultKind::WindowOutside => "the window reaches past its source",
-            FaultKind::SourceTooLong => "the source is longer than 4294967295 bytes",
-            FaultKind::InfoOutside => "sh_info is past the last section header",
-            FaultKind::InfoRelocates => "sh_info names a relocation section",
-            FaultKind::PayloadOutside => "the payload lies outside the source",
-            FaultKind::NotWholeRecords => "the payload is not made of whole relocation records",
-            FaultKind::GroupLength => "the group's length is 0 or no multiple of 4",
-            FaultKind::CrelHeader => "the CREL header is unreadable",
-            FaultKind::CrelOffset => "a CREL record's offset and flags are unreadable",
-            FaultKind::CrelSymbol => "a CREL record's symbol is unreadable",
-            FaultKind::CrelType => "a CREL record's type is unreadable",
-            FaultKind::CrelAddend => "a CREL record's addend is unreadable",
-            FaultKind::AttributesVersion => "build attributes of an unknown version",
-            FaultKind::SubsectionTooShort => "too few bytes for a subsection's length",
-            FaultKind::SubsectionLength =>
-                "a subsection's length is under 4 or past the payload's end",
-            FaultKind::VendorUnended => "a subsection's vendor name has no end",
-            FaultKind::BlockTooShort => "too few bytes for a block's tag and length",
-            FaultKind::BlockLength => "a block's length is under 5 or past its subsection's end",
-            FaultKind::IndexListUnended => "a block's index list has no end",
-            FaultKind::BlockTag => "a block's tag is none of 1, 2 and 3",
-            FaultKind::BadIndex => "an index of a block is wider than 32 bits",
-            FaultKind::AttributeTag => "an attribute's tag is unreadable",
-            FaultKind::AttributeInteger => "an attribute's integer is unreadable",
-            FaultKind::AttributeString => "an attribute's text has no end",
-            FaultKind::ForeignChain => "the chain belongs to another object",
-        }
+        pick(&TEXTS, self.number() as usize - 1)
     }
+}
+
+// Kinds are equal where their numbers are.
+pub impl PartialEq<FaultKind> for FaultKind as FaultKindPartialEq {
+    ghost equals = { λ a b r. Decides r (number a ≡ number b) };
+
+    fn eq(&self, other: &FaultKind) -> bool {
+        self.number() == other.number()
+    }
+}
+
+const TEXTS: [&str; 32] = [
+    "the section header table lies outside the source",
+    "more than 65535 section headers",
+    "the first section header is a relocation section's",
+    "the chain's table has not one number for each section header",
+    "no section has that number",
+    "the target is a relocation section itself",
+    "the chain was made for another number of section headers",
+    "the window reaches past its source",
+    "the source is longer than 4294967295 bytes",
+    "sh_info is past the last section header",
+    "sh_info names a relocation section",
+    "the payload lies outside the source",
+    "the payload is not made of whole relocation records",
+    "the group's length is 0 or no multiple of 4",
+    "the CREL header is unreadable",
+    "a CREL record's offset and flags are unreadable",
+    "a CREL record's symbol is unreadable",
+    "a CREL record's type is unreadable",
+    "a CREL record's addend is unreadable",
+    "build attributes of an unknown version",
+    "too few bytes for a subsection's length",
+    "a subsection's length is under 4 or past the payload's end",
+    "a subsection's vendor name has no end",
+    "too few bytes for a block's tag and length",
+    "a block's length is under 5 or past its subsection's end",
+    "a block's index list has no end",
+    "a block's tag is none of 1, 2 and 3",
+    "an index of a block is wider than 32 bits",
+    "an attribute's tag is unreadable",
+    "an attribute's integer is unreadable",
+    "an attribute's text has no end",
+    "the chain belongs to another object",
+];
+
+fn pick(texts: &[&'static str], index: usize) -> &'static str
+    requires { ⌜ index < length (now texts) ⌝ }
+    ensures { λ r. ⌜ now r ≡ getD (map behind (now (texts .entry))) index [] ⌝ }
+{
+    texts[index]
 }
 
 /// Why a number could not be read.
@@ -170,18 +190,18 @@ impl Fault {
         }
         let (first, second) = self.ordinals;
         match self.kind {
-            FaultKind::CrelOffset
-            | FaultKind::CrelSymbol
-            | FaultKind::CrelType
-            | FaultKind::CrelAddend => Place::Record(section, first),
+            FaultKind::CrelOffsetUnreadable
+            | FaultKind::CrelSymbolUnreadable
+            | FaultKind::CrelTypeUnreadable
+            | FaultKind::CrelAddendUnreadable => Place::Record(section, first),
             FaultKind::SubsectionTooShort
-            | FaultKind::SubsectionLength
+            | FaultKind::SubsectionLengthWrong
             | FaultKind::VendorUnended => Place::Subsection(section, first),
             FaultKind::BlockTooShort
-            | FaultKind::BlockLength
+            | FaultKind::BlockLengthWrong
             | FaultKind::IndexListUnended
-            | FaultKind::BlockTag
-            | FaultKind::BadIndex => Place::Block(section, first, second),
+            | FaultKind::BlockTagUnknown
+            | FaultKind::IndexTooWide => Place::Block(section, first, second),
             _ => Place::Section(section),
         }
     }

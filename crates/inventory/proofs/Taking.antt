@@ -32,7 +32,7 @@ module _ (o o′ : Object) (e : opening o ≡ Ok o′) where
   parts = by-tests (ltb 4294967295 (length (o .bytes))) (ltb 65535 (o .count)) (not (tableLies o)) (firstRelocates o) o o′ (direct 9) (direct 2) (direct 1) (direct 3) e
 
   fails : (f : Failure) → Fails o′ f → RefusedBy o f
-  fails Memory h = tt
+  fails Memory h = (e ∙ ap Ok (sym (parts .0)), rw (parts .0) (h .1))
   fails (Refused f) h = absurd (both-ways (tableLies o) (ap tableLies (parts .0) ∙ h .0) (not-false (tableLies o) (parts .1)))
 
   pub takes : (r : Result (Vec Row Global) Failure) → Cases r (λ v. map seen (vec-items v) ≡ rows o′) (Fails o′) → Takes o r

@@ -2,7 +2,7 @@
 use mathlib.Core.Path.{_≡_}
 use mathlib.Core.Bool.{Bool, true, false, cond}
 use mathlib.Core.List.{List, map}
-use Prim.Native.Nat.{ℕ}
+use Prim.Native.Nat.{ℕ, _<_}
 use lib.Dec.{eqb}
 use lib.ListN.{length}
 use Rattle.std.specs.Iters.{counting}
@@ -12,10 +12,12 @@ use Rattle.std.specs.declared.alloc.Global.{Global}
 use Rattle.std.specs.declared.vec.Vec.{Vec}
 use Rattle.std.specs.declared.result.Result.{Result}
 use Rattle.std.specs.declared.result.Result.the-variants.{Ok, Err}
+use Rattle.endian.specs.Chosen.{isBig}
+use Rattle.endian.specs.declared.Endianness.{Endianness}
 use Rattle.faults.specs.Numbers.{FaultNumbers, numbers, direct}
 use Rattle.classes.specs.Column.{Column, class32, class64}
 use Rattle.classes.specs.declared.Header.{Header}
-use Rattle.elf.specs.Object.{Object, header, tableLies, payload, opening}
+use Rattle.elf.specs.Object.{Object, header, headerAt, andThen, tableLies, payload, opening}
 use Rattle.inventory.specs.declared.ClassName.{ClassName}
 use Rattle.inventory.specs.declared.ClassName.the-variants.{Class32, Class64}
 use Rattle.inventory.specs.declared.Failure.{Failure}
@@ -49,6 +51,10 @@ row o i = record { index = i; header = header o i; payload = stateAt o i }
 abbrev pub rows : Object → List Listed
 rows o = map (row o) (counting 0 (o .count))
 
+-- The row at an index of the table, or why there is none.
+abbrev pub rowAt : Object → ℕ → Result Listed FaultNumbers
+rowAt o i = andThen (headerAt o i) (λ _. Ok (row o i))
+
 -- What is seen of a row of the program's.
 abbrev pub state : State → Payload
 state Reserved = reserved
@@ -58,14 +64,14 @@ state (Damaged f) = damaged (numbers f)
 abbrev pub seen : Row → Listed
 seen r = record { index = r .index; header = r .header; payload = state (r .payload) }
 
--- Why there are no rows: want of memory, or a table outside the source, which no opened object has.
+-- Why there are no rows: want of memory for one of them, or a table outside the source, which no opened object has.
 abbrev pub Fails : Object → Failure → Type 0
-Fails o Memory = Unit {0}
+Fails o Memory = (tableLies o ≡ true) × (0 < o .count)
 Fails o (Refused f) = (tableLies o ≡ false) × (numbers f ≡ direct 1)
 
--- The inventory of the object that was asked for: its rows, or the refusal of its opening.
+-- The inventory of the object that was asked for: its rows, the refusal of its opening, or want of memory for a row.
 abbrev pub RefusedBy : Object → Failure → Type 0
-RefusedBy o Memory = Unit {0}
+RefusedBy o Memory = (opening o ≡ Ok o) × (0 < o .count)
 RefusedBy o (Refused f) = opening o ≡ Err (numbers f)
 
 abbrev pub Takes : Object → Result (Vec Row Global) Failure → Type 0
@@ -74,3 +80,8 @@ Takes o r = Cases r (λ v. (opening o ≡ Ok o) × (map seen (vec-items v) ≡ r
 abbrev pub columnOf : ClassName → Column
 columnOf Class32 = class32
 columnOf Class64 = class64
+
+-- The object that is asked for by its bytes, the names of its class and order, and the place of its table.
+abbrev pub asked : List ℕ → ClassName → Endianness → ℕ → ℕ → Object
+asked bytes class order table count =
+    record { bytes = bytes; column = columnOf class; big = isBig order; table = table; count = count }

@@ -6,8 +6,8 @@ ghost use Prim.Native.Nat.{ℕ};
 ghost use denote.Ref.{now};
 ghost use Rattle.std.specs.Of.Vec.{vec-items};
 ghost use Rattle.std.specs.Results.{Cases};
-ghost use Rattle.endian.specs.Chosen.{isBig};
-ghost use Rattle.inventory.specs.Rows.{rows, seen, state, stateAt, Fails, Takes, columnOf};
+ghost use Rattle.faults.specs.Numbers.{Gives};
+ghost use Rattle.inventory.specs.Rows.{rows, rowAt, seen, state, stateAt, Fails, Takes, asked};
 ghost use Rattle.inventory.specs.Summary.{Sums};
 ghost use Rattle.inventory.specs.declared.Failure.the-variants.{Memory, Refused};
 use bytes::read_ref::SliceReadRef;
@@ -29,7 +29,6 @@ use faults::Fault;
 use faults::FaultDebug;
 use faults::FaultPartialEq;
 use faults::SectionIndex;
-use std::alloc::AllocError;
 use std::alloc::Global;
 use std::alloc::Refused as Unplaced;
 
@@ -56,14 +55,6 @@ pub struct Row {
 pub enum Failure {
     Memory,
     Refused(Fault),
-}
-
-pub impl From<AllocError> for Failure as FailureFromAlloc {
-    ghost converts = { λ _ r. r ≡ Memory };
-
-    fn from(_e: AllocError) -> Failure {
-        Failure::Memory
-    }
 }
 
 pub impl<T: Drop> From<Unplaced<T>> for Failure as FailureFromRefused {
@@ -95,21 +86,31 @@ fn state_at<'a, O: Sections<'a>>(object: &O, index: SectionIndex) -> State
     }
 }
 
+impl Row {
+    /// The row at an index of the table.
+    pub fn of<'a, O: Sections<'a>>(object: &O, index: SectionIndex) -> Result<Row, Fault>
+        ensures { λ r. ⌜ Gives seen r (rowAt (O·Sections .object (now (object .entry))) index) ⌝ }
+    {
+        let header = object.header(u32::from(index))?;
+        let payload = state_at(object, index);
+        Ok(Row {
+            index,
+            header,
+            payload,
+        })
+    }
+}
+
 /// A row for each header, in the order of the table.
 pub fn rows<'a, O: Sections<'a>>(object: &O, heap: Global) -> Result<Vec<Row>, Failure>
     ensures { λ r. ⌜ Cases r
         (λ v. map seen (vec-items v) ≡ rows (O·Sections .object (now (object .entry))))
-        (λ e. Fails (O·Sections .object (now (object .entry))) e) ⌝ }
+        (Fails (O·Sections .object (now (object .entry)))) ⌝ }
 {
     let mut rows = Vec::new(heap);
     for index in 0..object.count() {
-        let header = object.header(u32::from(index))?;
-        let payload = state_at(object, index);
-        rows.push(Row {
-            index,
-            header,
-            payload,
-        })?;
+        let row = Row::of(object, index)?;
+        rows.push(row)?;
     }
     Ok(rows)
 }
@@ -145,7 +146,7 @@ pub fn take(
     count: u64,
     heap: Global,
 ) -> Result<Vec<Row>, Failure>
-    ensures { λ r. ⌜ Takes (record { bytes = now (bytes .entry); column = columnOf class; big = isBig endian; table = table; count = count }) r ⌝ }
+    ensures { λ r. ⌜ Takes (asked (now (bytes .entry)) class endian table count) r ⌝ }
 {
     match class {
         ClassName::Class32 => list(bytes, Class32, endian, table, count, heap),

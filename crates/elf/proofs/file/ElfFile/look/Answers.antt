@@ -16,7 +16,7 @@ returns-in-Break-headers g c =
     let o : Object = meaning (g .R·ReadRef .bytes) (g .C·Class .column) (g .E·Endian .big) (c .args .self .now) in
     let p = err-from-errBy (c .from-residual .result) (c .from-residual .ensures .1) in
     let read = c .in-Break-headers .ensures tt in
-    rw (p .1) (lies-false o (g .SectionHeader·Pod .width) (wide g) (g .SectionHeader·Pod·met .some) (read .0) (read .1))
+    rw (p .1) (lies-false o (g .SectionHeader·Pod .width) (wide g) (g .SectionHeader·Pod·met .some) read)
 
 pub returns-in-Some : need.returns-in-Some
 returns-in-Some g c =
