@@ -3,7 +3,7 @@ ghost use mathlib.Core.Path.{_≡_};
 ghost use mathlib.Core.List.{List};
 ghost use Prim.Native.Nat.{ℕ, _+_, _*_, _/_, _%_, _<_, _≤_};
 ghost use lib.Dec.{eqb};
-ghost use lib.ListN.{length, take, drop};
+ghost use lib.ListN.{length, take, drop, replicate};
 ghost use denote.Ref.{now};
 ghost use Rattle.std.specs.Options.{Cases as BySome};
 ghost use Rattle.std.specs.Results.{Cases};
@@ -31,6 +31,19 @@ pub trait Pod: Copy {
         ensures { λ r. ⌜ BySome r
             (length (now (bytes .entry)) < width)
             (λ v. (stored v ≡ take width (now (bytes .entry))) × (width ≤ length (now (bytes .entry)))) ⌝ };
+}
+
+/// The `N` bytes of a record from a place on; zeros where it does not have so many.
+pub fn field<const N: usize>(bytes: &[u8], at: usize) -> [u8; N]
+    ensures { λ r. ⌜ (at + N ≤ length (now (bytes .entry)) → r ≡ part (now (bytes .entry)) at N) × (length (now (bytes .entry)) < at + N → r ≡ replicate N 0) ⌝ }
+{
+    if at > bytes.len() {
+        return [0; N];
+    }
+    match bytes[at..].first_chunk::<N>() {
+        Some(stored) => *stored,
+        None => [0; N],
+    }
 }
 
 /// The record at the front of bytes, and what follows it.

@@ -1,19 +1,15 @@
 //! What differs between 32-bit and 64-bit objects: words, section headers and relocation records.
 ghost use mathlib.Core.Path.{_≡_};
 ghost use mathlib.Core.Bool.{Bool};
-ghost use Prim.Native.Nat.{ℕ, _+_, _≤_};
+ghost use Prim.Native.Nat.{ℕ};
 ghost use lib.IntN.{ℤ, pos};
-ghost use lib.ListN.{length};
 ghost use denote.Ref.{now};
-ghost use Rattle.bytes.specs.Source.{part};
 ghost use Rattle.classes.specs.Column.{Column, field, signedField, stands, decoded, nonzero};
 use bytes::pod::Pod;
 use endian::Endian;
 
-pub mod class32;
-pub mod class64;
-pub mod rel_records;
-pub mod rela_records;
+pub mod words32;
+pub mod words64;
 
 /// An unsigned word of a class.
 pub trait Word: Copy {
@@ -156,16 +152,5 @@ pub fn symbol<W: Word, S: Sword, T: Relocation<W, S>, E: Endian>(
     match relocation.r_sym(endian) {
         0 => None,
         index => Some(index),
-    }
-}
-
-// The bytes of a field.
-fn field<const N: usize>(bytes: &[u8], at: usize) -> [u8; N]
-    requires { ⌜ at + N ≤ length (now bytes) ⌝ }
-    ensures { λ r. ⌜ r ≡ part (now (bytes .entry)) at N ⌝ }
-{
-    match bytes[at..].first_chunk::<N>() {
-        Some(stored) => *stored,
-        None => unreachable(),
     }
 }

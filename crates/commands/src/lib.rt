@@ -20,7 +20,6 @@ use words::UsageDisplay;
 mod report;
 #[cfg(test)]
 mod tests;
-mod words;
 
 const HELP: &str = "\
 boulesbeech reads section headers and payloads of relocatable ELF objects.

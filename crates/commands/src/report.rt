@@ -4,7 +4,6 @@ ghost use mathlib.Core.List.{map};
 ghost use denote.Ref.{now as behind};
 ghost use Rattle.std.specs.Options.{mapped};
 ghost use Rattle.commands.specs.Names.{named, typeName};
-use super::words::Request;
 use endian::Endianness;
 use faults::FaultDisplay;
 use inventory::ClassName;
@@ -12,6 +11,7 @@ use inventory::Row;
 use inventory::State;
 use inventory::Summary;
 use std::fmt;
+use words::Request;
 
 /// An inventory, to be printed.
 #[derive(Clone, Copy)]

@@ -4,6 +4,24 @@ use bytes::read_ref::ReadRef;
 use bytes::read_ref::SliceReadRef;
 use bytes::read_ref::Window;
 use bytes::read_ref::WindowReadRef;
+use class32::Class32;
+use class32::Class32Class;
+use class32::SectionHeader32Pod;
+use class32::SectionHeader32SectionHeader;
+use class32::rel_records::Rel32;
+use class32::rel_records::Rel32Pod;
+use class32::rel_records::Rel32Relocation;
+use class32::rela_records::Rela32;
+use class32::rela_records::Rela32Pod;
+use class32::rela_records::Rela32Relocation;
+use class64::Class64;
+use class64::Class64Class;
+use class64::SectionHeader64Pod;
+use class64::SectionHeader64SectionHeader;
+use class64::rel_records::Rel64Pod;
+use class64::rel_records::Rel64Relocation;
+use class64::rela_records::Rela64Pod;
+use class64::rela_records::Rela64Relocation;
 use classes::Class;
 use classes::Header;
 use classes::HeaderDebug;
@@ -11,29 +29,11 @@ use classes::HeaderPartialEq;
 use classes::Relocation;
 use classes::Sword;
 use classes::Word;
-use classes::class32::Class32;
-use classes::class32::Class32Class;
-use classes::class32::I32Sword;
-use classes::class32::SectionHeader32Pod;
-use classes::class32::SectionHeader32SectionHeader;
-use classes::class32::U32Word;
-use classes::class64::Class64;
-use classes::class64::Class64Class;
-use classes::class64::I64Sword;
-use classes::class64::SectionHeader64Pod;
-use classes::class64::SectionHeader64SectionHeader;
-use classes::class64::U64Word;
-use classes::rel_records::Rel32;
-use classes::rel_records::Rel32Pod;
-use classes::rel_records::Rel32Relocation;
-use classes::rel_records::Rel64Pod;
-use classes::rel_records::Rel64Relocation;
-use classes::rela_records::Rela32;
-use classes::rela_records::Rela32Pod;
-use classes::rela_records::Rela32Relocation;
-use classes::rela_records::Rela64Pod;
-use classes::rela_records::Rela64Relocation;
 use classes::symbol;
+use classes::words32::I32Sword;
+use classes::words32::U32Word;
+use classes::words64::I64Sword;
+use classes::words64::U64Word;
 use elf::file::ElfFile;
 use elf::file::ElfFileSections;
 use elf::section::Sections;
@@ -210,6 +210,11 @@ fn each_field_of_a_relocation_has_its_place() -> Result<(), Fail> {
         told(&rel, LittleEndian),
         (0x0706_0504_0302_0100, 0x0f0e_0d0c, 0x0b0a_0908, 0),
     )?;
+    check_eq(
+        told(&rel, BigEndian),
+        (0x0001_0203_0405_0607, 0x0809_0a0b, 0x0c0d_0e0f, 0),
+    )?;
+    check_eq(symbol(&rel, BigEndian), Some(0x0809_0a0b))?;
     let Some(rela) = Rela64Pod::cast(&PLACES) else {
         return Err(Fail::new("too few bytes"));
     };

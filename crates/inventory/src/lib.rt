@@ -11,14 +11,14 @@ ghost use Rattle.inventory.specs.Rows.{rows, rowAt, seen, state, stateAt, Fail
 ghost use Rattle.inventory.specs.Summary.{Sums};
 ghost use Rattle.inventory.specs.declared.Failure.the-variants.{Memory, Refused};
 use bytes::read_ref::SliceReadRef;
+use class32::Class32;
+use class32::Class32Class;
+use class64::Class64;
+use class64::Class64Class;
 use classes::Class;
 use classes::Header;
 use classes::HeaderDebug;
 use classes::HeaderPartialEq;
-use classes::class32::Class32;
-use classes::class32::Class32Class;
-use classes::class64::Class64;
-use classes::class64::Class64Class;
 use elf::file::ElfFile;
 use elf::file::ElfFileSections;
 use elf::section::Sections;
