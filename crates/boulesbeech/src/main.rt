@@ -1,4 +1,5 @@
 //! The program.
+#![tactic(auto)]
 use commands::{Failed, run};
 
 fn main(rt: HostRuntime) -> Result<(), Failed> {

@@ -1,4 +1,5 @@
 //! The program again, run on the damaged sample.
+#![tactic(auto)]
 use commands::{Failed, run};
 
 fn main(rt: HostRuntime) -> Result<(), Failed> {

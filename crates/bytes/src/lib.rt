@@ -1,3 +1,4 @@
 //! Byte sources and fixed records.
+#![tactic(auto)]
 pub mod pod;
 pub mod read_ref;

@@ -1,4 +1,5 @@
 //! 32-bit objects: section headers and relocation records.
+#![tactic(auto)]
 ghost use Rattle.classes.specs.Column.{class32};
 ghost use Rattle.std.proofs.Common.{rules};
 

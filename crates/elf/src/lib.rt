@@ -1,3 +1,4 @@
 //! Objects: section headers and payloads.
+#![tactic(auto)]
 pub mod file;
 pub mod section;

@@ -1,8 +1,10 @@
 //! What can be wrong with an object, or with what a caller asks of it.
-ghost use Rattle.std.specs.Prelude.{◌≡◌, ◌<◌, ◌≤◌, [], map, length, Some, Decides, slice_index_or};
+#![tactic(auto)]
+ghost use Rattle.std.specs.Prelude.{◌≡◌, ◌<◌, ◌≤◌, [], map, length, Some, ◌==◌, slice_index_or};
 ghost use Rattle.faults.specs.Numbers.{number, cause_number, numbers, direct};
 ghost use Rattle.faults.specs.Texts.{happened, why, place, whereabouts, text};
 ghost use Rattle.std.specs.Cmp.Rules.{comparing};
+ghost use Rattle.std.specs.Ordering.{on};
 ghost use Rattle.std.proofs.Common.{rules};
 ghost use Rattle.std.specs.Cmp as Keys;
 
@@ -100,7 +102,7 @@ impl FaultKind {
 
 // Kinds are equal where their numbers are.
 impl PartialEq for FaultKind {
-    ghost equals = { λ a b r. Decides r (number a ≡ number b) };
+    ghost eq = { on number ◌==◌ };
 
     ghost laws = { Keys.partial_equiv_from_equiv (Prim.search (comparing, rules)) };
 

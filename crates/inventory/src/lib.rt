@@ -1,4 +1,5 @@
 //! The inventory of an object: a row for each section header, with the state of its payload.
+#![tactic(auto)]
 ghost use Rattle.std.specs.Prelude.{◌≡◌, map, MatchResult};
 ghost use Rattle.faults.specs.Numbers.{Gives};
 ghost use Rattle.inventory.specs.Rows.{rows, row_at, seen, state, state_at, Fails, Takes, column_of, asked};

@@ -5,7 +5,7 @@ use Rattle.bytes.proofs.pod.slice_from_bytes.Goals as goal
 pub returns-in-Some : goal.returns-in-Some
 returns-in-Some g c =
     let bs = c.args.bytes.now in
-    let is = c.in-Some.ensures.0 ∙ ap (λ w. c.args.count * w) c.size-of.ensures in
+    let is = c.in-Some.ensures.0 ∙ ap (λ w. c.args.count * w) c.size_of.ensures in
     let all : c.in-Some.size - 0 ≡ c.in-Some.size = omega arith in (
       ap (λ n. take n bs) (all ∙ is),
       take_rest bs c.in-Some.size ∙ ap (λ n. drop n bs) is,

@@ -13,16 +13,16 @@ pub returns-in-inventory : goal.returns-in-inventory
 returns-in-inventory c =
     let xs = c.args.words.now in
     let some : 0 < length xs = search rules in
-    let first = word_is xs 0 c.command-item.result c.as-str.result.now some c.command-item.is c.as-str.ensures.value in
-    let h = c.parse-inventory.ensures in
-    parsed_inventory (map string_bytes xs) c.parse-inventory.result (omega (arith, long xs)) (first ∙ c.in-inventory.is)
+    let first = word_is xs 0 c.command-item.result c.as_str.result.now some c.command-item.is c.as_str.ensures.value in
+    let h = c.parse_inventory.ensures in
+    parsed_inventory (map string_bytes xs) c.parse_inventory.result (omega (arith, long xs)) (first ∙ c.in-inventory.is)
     (rw (behind xs) at h)
 
-pub returns-in-default-as-str : goal.returns-in-default-as-str
-returns-in-default-as-str c =
+pub returns-in-default-as_str : goal.returns-in-default-as_str
+returns-in-default-as_str c =
     let xs = c.args.words.now in
     let some : 0 < length xs = search rules in
-    let first = word_is xs 0 c.command-item.result c.as-str.result.now some c.command-item.is c.as-str.ensures.value in
-    parsed_unknown (map string_bytes xs) (Err (UnknownCommand c.as-str.result)) (omega (arith, long xs)) c.as-str.result first
-    (λ h. elim h [ inl e ↦ c.in-default-as-str.not-text e | inr g ↦ elim g [ inl e ↦ c.in-default-as-str.not-text-2 e | inr e ↦ c.in-default-as-str.not-help e ] ])
-    c.in-default-as-str.not-inventory refl
+    let first = word_is xs 0 c.command-item.result c.as_str.result.now some c.command-item.is c.as_str.ensures.value in
+    parsed_unknown (map string_bytes xs) (Err (UnknownCommand c.as_str.result)) (omega (arith, long xs)) c.as_str.result first
+    (λ h. elim h [ inl e ↦ c.in-default-as_str.not-text e | inr g ↦ elim g [ inl e ↦ c.in-default-as_str.not-text-2 e | inr e ↦ c.in-default-as_str.not-help e ] ])
+    c.in-default-as_str.not-inventory refl

@@ -15,10 +15,10 @@ pub returns : goal.returns
 returns c =
     let xs = c.args.words.now in
     let five : length xs ≡ 5 = search rules in
-    asked_five (map string_bytes xs) c.as-str.result.now c.as-str-2.result.now c.as-str-3.result.now c.as-str-4.result.now c.as-str-5.result.now c.parse-object.result (long xs ∙ five)
-    (word_is xs 0 c.file-item.result _ (omega arith) c.file-item.is c.as-str.ensures.value)
-    (word_is xs 1 c.class-item.result _ (omega arith) c.class-item.is c.as-str-2.ensures.value)
-    (word_is xs 2 c.order-item.result _ (omega arith) c.order-item.is c.as-str-3.ensures.value)
-    (word_is xs 3 c.table-item.result _ (omega arith) c.table-item.is c.as-str-4.ensures.value)
-    (word_is xs 4 c.count-item.result _ (omega arith) c.count-item.is c.as-str-5.ensures.value)
-    c.parse-object.ensures
+    asked_five (map string_bytes xs) c.as_str.result.now c.as_str-2.result.now c.as_str-3.result.now c.as_str-4.result.now c.as_str-5.result.now c.parse_object.result (long xs ∙ five)
+    (word_is xs 0 c.file-item.result _ (omega arith) c.file-item.is c.as_str.ensures.value)
+    (word_is xs 1 c.class-item.result _ (omega arith) c.class-item.is c.as_str-2.ensures.value)
+    (word_is xs 2 c.order-item.result _ (omega arith) c.order-item.is c.as_str-3.ensures.value)
+    (word_is xs 3 c.table-item.result _ (omega arith) c.table-item.is c.as_str-4.ensures.value)
+    (word_is xs 4 c.count-item.result _ (omega arith) c.count-item.is c.as_str-5.ensures.value)
+    c.parse_object.ensures

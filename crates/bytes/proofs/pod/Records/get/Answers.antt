@@ -10,7 +10,7 @@ returns-in-Some g c =
     let i = c.args.index in
     let start = c.in-Some.start in
     let some = g.met.T.Pod.some in
-    let at = c.in-Some.ensures.0 ∙ ap (λ n. i * n) c.size-of.ensures in
+    let at = c.in-Some.ensures.0 ∙ ap (λ n. i * n) c.size_of.ensures in
     some_weaker c.cast.result c.cast.ensures
     (past bs width i start some at)
     (λ v h. (h.0 ∙ front bs width i start some at, within bs width i start some at c.in-Some.ensures.1 h.1))
@@ -18,4 +18,4 @@ returns-in-Some g c =
 pub returns-in-None : goal.returns-in-None
 returns-in-None g c =
     before (length c.args.self.now.bytes.now) g.T.Pod.width c.args.index g.met.T.Pod.some
-    (rw (← c.size-of.ensures) c.in-None.ensures)
+    (rw (← c.size_of.ensures) c.in-None.ensures)

@@ -12,6 +12,6 @@ pub returns : goal.returns
 returns g c =
     let w = c.args.self in
     let bs = g.R.ReadRef.bytes w.source in
-    MatchResult-weaker c.read-bytes-at.result c.read-bytes-at.ensures
+    MatchResult-weaker c.read_bytes_at.result c.read_bytes_at.ensures
     (λ s h. (h.0 ∙ sym (part-part bs w.start w.size c.args.offset c.args.size (omega (arith, length_part bs w.start w.size))), λ _. omega arith))
     (λ e h. omega (arith, length_part bs w.start w.size))
