@@ -1,5 +1,6 @@
 //! The program.
 #![tactic(auto)]
+
 use commands::{Failed, run};
 
 fn main(rt: HostRuntime) -> Result<(), Failed> {

@@ -1,4 +1,5 @@
 //! Tests of faults, byte orders, sources, windows and fixed records.
 #![tactic(auto)]
+
 #[cfg(test)]
 mod tests;

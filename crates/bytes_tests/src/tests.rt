@@ -1,12 +1,12 @@
 //! Telling inputs of faults, byte orders, sources, windows and fixed records.
 ghost use Rattle.std.proofs.Common.{rules};
 
-use bytes::pod::{
-    Pod, field, from_bytes, read_at, read_slice_at, slice_from_all_bytes, slice_from_bytes,
-};
-use bytes::read_ref::{ReadRef, Window};
 use endian::{BigEndian, Endian, Endianness, LittleEndian};
 use faults::{Cause, Fault, FaultKind};
+use sources::pod::{
+    Pod, field, from_bytes, read_at, read_slice_at, slice_from_all_bytes, slice_from_bytes,
+};
+use sources::read_ref::{ReadRef, Window};
 use std::test::Fail;
 
 // A record of two bytes.

@@ -1,13 +1,14 @@
 //! 32-bit objects: section headers and relocation records.
 #![tactic(auto)]
+
 ghost use Rattle.classes.specs.Column.{class32};
 ghost use Rattle.std.proofs.Common.{rules};
 
-use bytes::pod::{Pod, field};
 use classes::{Class, SectionHeader};
 use endian::Endian;
 use rel_records::Rel32;
 use rela_records::Rela32;
+use sources::pod::{Pod, field};
 
 pub mod rel_records;
 pub mod rela_records;

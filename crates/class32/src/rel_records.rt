@@ -3,9 +3,9 @@ ghost use Rattle.std.specs.Prelude.{pos};
 ghost use Rattle.classes.specs.Column.{class32};
 ghost use Rattle.std.proofs.Common.{rules};
 
-use bytes::pod::{Pod, field};
 use classes::{Rel, Relocation};
 use endian::Endian;
+use sources::pod::{Pod, field};
 
 /// REL of 32-bit objects.
 #[derive(Clone, Copy)]

@@ -2,9 +2,9 @@
 ghost use Rattle.classes.specs.Column.{class32, signed_field};
 ghost use Rattle.std.proofs.Common.{rules};
 
-use bytes::pod::{Pod, field};
 use classes::{Rela, Relocation};
 use endian::Endian;
+use sources::pod::{Pod, field};
 
 /// RELA of 32-bit objects.
 #[derive(Clone, Copy)]

@@ -1,13 +1,14 @@
 //! 64-bit objects: section headers and relocation records.
 #![tactic(auto)]
+
 ghost use Rattle.classes.specs.Column.{class64};
 ghost use Rattle.std.proofs.Common.{rules};
 
-use bytes::pod::{Pod, field};
 use classes::{Class, SectionHeader};
 use endian::Endian;
 use rel_records::Rel64;
 use rela_records::Rela64;
+use sources::pod::{Pod, field};
 
 pub mod rel_records;
 pub mod rela_records;

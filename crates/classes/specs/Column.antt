@@ -1,7 +1,7 @@
 -- The layouts that a class has: how large its records are, and where their fields stand.
 use Rattle.std.specs.Prelude.{ℕ, ◌*◌, ◌/◌, ◌%◌, ◌^◌, Bool, cond, List, ℤ, Some, None, Option, ◌==◌}
 use Rattle.endian.specs.Order.{number, signed}
-use Rattle.bytes.specs.Source.{part}
+use Rattle.sources.specs.Source.{part}
 use Rattle.classes.specs.declared.Header.{Header}
 
 -- Where a field stands in its record, and how many bytes it has.

@@ -1,10 +1,11 @@
 //! What differs between 32-bit and 64-bit objects: words, section headers and relocation records.
 #![tactic(auto)]
+
 ghost use Rattle.std.specs.Prelude.{◌≡◌, ℕ, Bool, ℤ, pos};
 ghost use Rattle.classes.specs.Column.{Column, field, signed_field, stands, decoded, nonzero};
 
-use bytes::pod::Pod;
 use endian::Endian;
+use sources::pod::Pod;
 
 pub mod words32;
 pub mod words64;

@@ -1,5 +1,6 @@
 //! What the program does with its words.
 #![tactic(auto)]
+
 ghost use Rattle.std.specs.Prelude.{◌≡◌, true, map, is_err, None, string_bytes};
 ghost use Rattle.inventory.specs.Rows.{Takes, asked};
 ghost use Rattle.commands.specs.Answered.{Reported, wrong, Answered};

@@ -6,8 +6,8 @@ use Rattle.std.proofs.lemmas.Nat.{mul-le}
 use Rattle.std.proofs.lemmas.Bool.{cases_eq, eqb-true, leb-true, or_cases, or_parts, both_ways}
 use Rattle.faults.specs.Numbers.{direct, Gives}
 use Rattle.faults.specs.declared.Fault.{Fault}
-use Rattle.bytes.specs.Source.{part, lies}
-use Rattle.bytes.proofs.Source.{length_part}
+use Rattle.sources.specs.Source.{part, lies}
+use Rattle.sources.proofs.Source.{length_part}
 use Rattle.elf.specs.Coverage.{TableCovers, TableCovered, Covers, Covered, Uncovered}
 use Rattle.elf.specs.Object.{Object, header, payload, payload_of, and_then, bare, table_lies}
 

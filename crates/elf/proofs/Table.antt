@@ -3,8 +3,8 @@ use Rattle.std.proofs.Common.{◌≡◌, ℕ, ◌+◌, ◌-◌, ◌*◌, ◌/◌
 use native.Mathlib.Nat.{mul-div_left}
 use Rattle.std.proofs.lemmas.Nat.{mul-le}
 use Rattle.std.proofs.lemmas.Bool.{cases_eq, eq-eqb, ne_eqb, le-leb, lt-leb, lt-ltb, le-ltb, or_left, or_right, or_from, cond-true, cond-false}
-use Rattle.bytes.specs.Source.{part, Lies, Outside}
-use Rattle.bytes.proofs.Source.{length_part, part-part}
+use Rattle.sources.specs.Source.{part, Lies, Outside}
+use Rattle.sources.proofs.Source.{length_part, part-part}
 use Rattle.classes.specs.Column.{Column, decoded}
 use Rattle.classes.specs.declared.Header.{Header}
 use Rattle.elf.specs.Object.{Object, header, table_lies}

@@ -1,7 +1,7 @@
 -- An object by its bytes: its section headers, and their payloads.
 use Rattle.std.specs.Prelude.{ℕ, ◌+◌, ◌*◌, Bool, true, false, cond, not, ◌&&◌, ◌||◌, List, [], length, Ok, Err, Result, ◌==◌, nat_lt}
 use Rattle.faults.specs.Numbers.{FaultNumbers, direct}
-use Rattle.bytes.specs.Source.{part, lies}
+use Rattle.sources.specs.Source.{part, lies}
 use Rattle.classes.specs.Column.{Column, decoded}
 use Rattle.classes.specs.declared.Header.{Header}
 

@@ -6,11 +6,11 @@ ghost use Rattle.elf.specs.Object.{Object, opening};
 ghost use Rattle.elf.specs.Opened.{meaning, Looks, Sound};
 
 use super::section::{Sections, data, is_relocation};
-use bytes::pod::read_slice_at;
-use bytes::read_ref::ReadRef;
 use classes::{Class, Header};
 use endian::Endian;
 use faults::{Fault, FaultKind, SectionIndex};
+use sources::pod::read_slice_at;
+use sources::read_ref::ReadRef;
 
 /// The longest source that is opened.
 pub const MAX_SOURCE: u64 = 4294967295;

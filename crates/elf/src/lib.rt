@@ -1,4 +1,5 @@
 //! Objects: section headers and payloads.
 #![tactic(auto)]
+
 pub mod file;
 pub mod section;

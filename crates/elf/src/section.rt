@@ -4,9 +4,9 @@ ghost use Rattle.faults.specs.Numbers.{Gives};
 ghost use Rattle.elf.specs.Coverage.{Covered, Uncovered};
 ghost use Rattle.elf.specs.Object.{Object, relocates, header_at, section, payload, payload_of};
 
-use bytes::read_ref::ReadRef;
 use classes::Header;
 use faults::{Fault, FaultKind, SectionIndex};
+use sources::read_ref::ReadRef;
 
 pub const SHT_RELA: u32 = 4;
 

@@ -1,4 +1,5 @@
 //! Tests of classes, opening, headers, payloads and the inventory.
 #![tactic(auto)]
+
 #[cfg(test)]
 mod tests;

@@ -1,6 +1,4 @@
 //! Telling inputs of classes, opening, headers, payloads and the inventory.
-use bytes::pod::Pod;
-use bytes::read_ref::{ReadRef, Window};
 use class32::rel_records::Rel32;
 use class32::rela_records::Rela32;
 use class32::{Class32, SectionHeader};
@@ -11,6 +9,8 @@ use elf::section::Sections;
 use endian::{BigEndian, Endian, Endianness, LittleEndian};
 use faults::{Fault, FaultKind};
 use inventory::{ClassName, State, Summary, take};
+use sources::pod::Pod;
+use sources::read_ref::{ReadRef, Window};
 use std::alloc::{AllocError, Global};
 use std::test::Fail;
 

@@ -1,5 +1,6 @@
 //! The order of the bytes of a number.
 #![tactic(auto)]
+
 ghost use Rattle.std.specs.Prelude.{◌≡◌, Bool, true, false, not};
 ghost use Rattle.endian.specs.Chosen.{is_big};
 ghost use Rattle.endian.specs.Order.{number, signed};

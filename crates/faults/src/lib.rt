@@ -1,5 +1,6 @@
 //! What can be wrong with an object, or with what a caller asks of it.
 #![tactic(auto)]
+
 ghost use Rattle.std.specs.Prelude.{◌≡◌, ◌<◌, ◌≤◌, [], map, length, Some, ◌==◌, slice_index_or};
 ghost use Rattle.faults.specs.Numbers.{number, cause_number, numbers, direct};
 ghost use Rattle.faults.specs.Texts.{happened, why, place, whereabouts, text};

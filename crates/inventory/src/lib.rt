@@ -1,12 +1,12 @@
 //! The inventory of an object: a row for each section header, with the state of its payload.
 #![tactic(auto)]
+
 ghost use Rattle.std.specs.Prelude.{◌≡◌, map, MatchResult};
 ghost use Rattle.faults.specs.Numbers.{Gives};
 ghost use Rattle.inventory.specs.Rows.{rows, row_at, seen, state, state_at, Fails, Takes, column_of, asked};
 ghost use Rattle.inventory.specs.Summary.{Sums};
 ghost use Rattle.inventory.specs.declared.Failure.TheVariants.{Memory, Refused};
 
-use bytes::read_ref::ReadRef;
 use class32::Class32;
 use class64::Class64;
 use classes::{Class, Header};
@@ -14,6 +14,7 @@ use elf::file::ElfFile;
 use elf::section::Sections;
 use endian::{Endian, Endianness};
 use faults::{Fault, SectionIndex};
+use sources::read_ref::ReadRef;
 use std::alloc::{AllocFailed as Unplaced, Global};
 
 /// What a section's payload came to.

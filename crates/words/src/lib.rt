@@ -1,5 +1,6 @@
 //! The words that the program is called with.
 #![tactic(auto)]
+
 ghost use Rattle.std.specs.Prelude.{◌≡◌, map, Some, string_bytes, MatchOption};
 ghost use Rattle.words.specs.Words.{class_word, order_word, NoClass, NoOrder, Says, Asked, Parsed, Inventoried, told};
 

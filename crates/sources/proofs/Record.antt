@@ -1,7 +1,7 @@
 -- Records of one width, one after another. Assumes nothing.
 use Rattle.std.proofs.Common.{◌≡◌, ℕ, ◌+◌, ◌-◌, ◌*◌, ◌/◌, ◌<◌, ◌≤◌, List, length, take, drop, sym, ap, ◌∙◌, div-lt_iff_lt-mul, add-mul, le-div_iff_mul-le, arith}
 use Rattle.std.proofs.lemmas.List.{take_rest, length-drop}
-use Rattle.bytes.specs.Source.{part}
+use Rattle.sources.specs.Source.{part}
 
 -- The bytes `bs` hold so many records, and the one at `i` starts at `start`.
 module _ (bs : List ℕ) (width i start : ℕ) (some : 0 < width) (at : start ≡ i * width) where

@@ -1,6 +1,6 @@
 use Rattle.std.proofs.Common.{length, take, ap, ◌∙◌, arith}
 use Rattle.std.proofs.lemmas.List.{take_rest, length-drop}
-use Rattle.bytes.proofs.pod.field.Goals as goal
+use Rattle.sources.proofs.pod.field.Goals as goal
 
 pub returns-in-Some : goal.returns-in-Some
 returns-in-Some g c =

@@ -1,7 +1,7 @@
 -- Laws of parts. Assumes nothing.
 use Rattle.std.proofs.Common.{◌≡◌, ℕ, ◌+◌, ◌-◌, ◌≤◌, min, List, length, take, drop, sym, refl, ap, ◌∙◌, arith}
 use Rattle.std.proofs.lemmas.List.{length-take, length-drop, take-take, drop-take, drop-drop}
-use Rattle.bytes.specs.Source.{part}
+use Rattle.sources.specs.Source.{part}
 
 pub length_part : (bs : List ℕ) (offset size : ℕ) → length (part bs offset size) ≡ min size (length bs - offset)
 length_part bs offset size = length-take size (drop offset bs) ∙ ap (min size) (length-drop offset bs)

@@ -1,7 +1,7 @@
 use Rattle.std.proofs.Common.{◌*◌, length, ap, ◌∙◌}
-use Rattle.bytes.proofs.Options.{some_weaker}
-use Rattle.bytes.proofs.Record.{past, within, front, before}
-use Rattle.bytes.proofs.pod.Records.get.Goals as goal
+use Rattle.sources.proofs.Options.{some_weaker}
+use Rattle.sources.proofs.Record.{past, within, front, before}
+use Rattle.sources.proofs.pod.Records.get.Goals as goal
 
 pub returns-in-Some : goal.returns-in-Some
 returns-in-Some g c =

@@ -1,6 +1,6 @@
 -- Records of one width, one after another.
 use Rattle.std.specs.Prelude.{ℕ, ◌*◌, ◌/◌, List, length}
-use Rattle.bytes.specs.Source.{part}
+use Rattle.sources.specs.Source.{part}
 
 -- How many whole records bytes hold.
 abbrev pub records : ℕ → List ℕ → ℕ

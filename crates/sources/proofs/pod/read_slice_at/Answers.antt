@@ -1,6 +1,6 @@
 use Rattle.std.proofs.Common.{◌≡◌, ◌*◌, ap, ◌∙◌, arith}
-use Rattle.bytes.specs.Source.{part}
-use Rattle.bytes.proofs.pod.read_slice_at.Goals as goal
+use Rattle.sources.specs.Source.{part}
+use Rattle.sources.proofs.pod.read_slice_at.Goals as goal
 
 pub returns-in-Ok : goal.returns-in-Ok
 returns-in-Ok g c =

@@ -1,7 +1,7 @@
 use Rattle.std.proofs.Common.{sym, ◌∙◌, arith}
 use Rattle.std.proofs.lemmas.Result.{MatchResult-weaker}
-use Rattle.bytes.proofs.Source.{length_part, part-part}
-use Rattle.bytes.proofs.read_ref.WindowReadRef.read_bytes_at.Goals as goal
+use Rattle.sources.proofs.Source.{length_part, part-part}
+use Rattle.sources.proofs.read_ref.WindowReadRef.read_bytes_at.Goals as goal
 
 pub overflow-add-self : goal.overflow-add-self
 overflow-add-self g c =

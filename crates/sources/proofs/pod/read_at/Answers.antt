@@ -1,8 +1,8 @@
 use Rattle.std.proofs.Common.{length, take, drop, ap, ◌∙◌, arith}
 use Rattle.std.proofs.lemmas.List.{take-take}
-use Rattle.bytes.specs.Source.{part}
-use Rattle.bytes.proofs.Source.{length_part}
-use Rattle.bytes.proofs.pod.read_at.Goals as goal
+use Rattle.sources.specs.Source.{part}
+use Rattle.sources.proofs.Source.{length_part}
+use Rattle.sources.proofs.pod.read_at.Goals as goal
 
 pub returns-in-Some : goal.returns-in-Some
 returns-in-Some g c =

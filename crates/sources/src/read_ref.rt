@@ -1,7 +1,7 @@
 //! Where bytes come from.
 ghost use Rattle.std.specs.Prelude.{◌≡◌, ℕ, ◌+◌, ◌^◌, ◌<◌, ◌≤◌, List, length, MatchResult};
 ghost use Rattle.faults.specs.Numbers.{numbers, direct};
-ghost use Rattle.bytes.specs.Source.{part, Lies, Outside};
+ghost use Rattle.sources.specs.Source.{part, Lies, Outside};
 
 use faults::{Fault, FaultKind};
 

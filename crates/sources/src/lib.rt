@@ -1,4 +1,5 @@
 //! Byte sources and fixed records.
 #![tactic(auto)]
+
 pub mod pod;
 pub mod read_ref;

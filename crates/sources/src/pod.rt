@@ -1,7 +1,7 @@
 //! Fixed records, read from bytes.
 ghost use Rattle.std.specs.Prelude.{◌≡◌, ℕ, ◌+◌, ◌*◌, ◌/◌, ◌%◌, ◌<◌, ◌≤◌, List, length, take, drop, replicate, MatchOption, MatchResult, ◌==◌, ◌≢◌};
-ghost use Rattle.bytes.specs.Record.{records, record_at};
-ghost use Rattle.bytes.specs.Source.{part, Lies, Outside};
+ghost use Rattle.sources.specs.Record.{records, record_at};
+ghost use Rattle.sources.specs.Source.{part, Lies, Outside};
 
 use crate::read_ref::ReadRef;
 use std::marker::PhantomData;

@@ -1,6 +1,6 @@
 use Rattle.std.proofs.Common.{arith}
-use Rattle.bytes.proofs.Source.{length_part}
-use Rattle.bytes.proofs.read_ref.Window.held.Goals as goal
+use Rattle.sources.proofs.Source.{length_part}
+use Rattle.sources.proofs.read_ref.Window.held.Goals as goal
 
 pub returns : goal.returns
 returns g c =
