@@ -11,8 +11,8 @@ returns g c =
     let given : Gives (λ x. x.now) c.data.result (payload o c.args.index) = search rules in
     record { result = given; covered = covered o c.args.index c.data.result given }
 
-pub returns-in-err-header : goal.returns-in-err-header
-returns-in-err-header g c =
+pub returns-in_err-header : goal.returns-in_err-header
+returns-in_err-header g c =
     let o : Object = meaning g.R.ReadRef.bytes g.C.Class.column g.E.Endian.big c.args.self.now in
     let given : Gives (λ x. x.now) c.from-residual.result (payload o c.args.index) = search rules in
     record { result = given; covered = covered o c.args.index c.from-residual.result given }

@@ -3,8 +3,8 @@ use Rattle.std.proofs.lemmas.Result.{MatchResult-weaker}
 use Rattle.sources.proofs.Source.{length_part, part-part}
 use Rattle.sources.proofs.read_ref.WindowReadRef.read_bytes_at.Goals as goal
 
-pub overflow-add-self : goal.overflow-add-self
-overflow-add-self g c =
+pub overflow_add-self : goal.overflow_add-self
+overflow_add-self g c =
     let w = c.args.self in
     omega (arith, length_part (g.R.ReadRef.bytes w.source) w.start w.size)
 
