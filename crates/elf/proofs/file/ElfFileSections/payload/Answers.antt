@@ -14,5 +14,5 @@ returns g c =
 pub returns-in_err-header : goal.returns-in_err-header
 returns-in_err-header g c =
     let o : Object = meaning g.R.ReadRef.bytes g.C.Class.column g.E.Endian.big c.args.self.now in
-    let given : Gives (λ x. x.now) c.from-residual.result (payload o c.args.index) = search rules in
-    record { result = given; covered = covered o c.args.index c.from-residual.result given }
+    let given : Gives (λ x. x.now) c.from_residual.result (payload o c.args.index) = search rules in
+    record { result = given; covered = covered o c.args.index c.from_residual.result given }
