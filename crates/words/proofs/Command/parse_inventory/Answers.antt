@@ -1,14 +1,14 @@
 use Rattle.std.proofs.Common.{◌≡◌, map, length, string_bytes, ◌∙◌, arith, rules}
 use Rattle.words.proofs.Reading.{long, word_is, asked_five, asked_other}
 use Rattle.words.proofs.Command.parse_inventory.Goals as goal
-use Rattle.words.proofs.Command.parse_inventory.Goals.{in-default-via-then-words-lt5, in-default-via-else-words-lt5+else-words-lt6}
+use Rattle.words.proofs.Command.parse_inventory.Goals.{in_default-via-then-words-lt5, in_default-via-else-words-lt5+else-words-lt6}
 
-pub returns-in-default : goal.returns-in-default
-returns-in-default c =
+pub returns-in_default : goal.returns-in_default
+returns-in_default c =
     let xs = c.args.words.now in
-    asked_other (map string_bytes xs) (length xs) (long xs) (elim c.in-default.branch [
-      | in-default-via-then-words-lt5 w ↦ search rules
-      | in-default-via-else-words-lt5+else-words-lt6 w ↦ search rules
+    asked_other (map string_bytes xs) (length xs) (long xs) (elim c.in_default.branch [
+      | in_default-via-then-words-lt5 w ↦ search rules
+      | in_default-via-else-words-lt5+else-words-lt6 w ↦ search rules
     ])
 
 pub returns : goal.returns
