@@ -6,7 +6,7 @@ use endian::Endianness;
 use faults::{Fault, FaultKind};
 use inventory::{ClassName, Row, State};
 use std::alloc::{AllocError, Global};
-use std::test::*;
+use std::test::Fail;
 use words::Request;
 
 fn texts(heap: Global, words: &[&str]) -> Result<Vec<String>, AllocError> {
@@ -24,8 +24,12 @@ fn expect(rt: &HostRuntime, words: &[&str], answered: bool, start: &str) -> Resu
         Ok(text) => (true, text),
         Err(problem) => (false, format!(in rt.alloc(); "{problem}")?),
     };
-    assert_eq!(ok, answered);
-    assert!(text.as_str().starts_with(start));
+    if ok != answered {
+        return Err(Fail::new("answered where a refusal is wanted, or refused where an answer is"));
+    }
+    if !text.as_str().starts_with(start) {
+        return Err(Fail::new("another text"));
+    }
     Ok(())
 }
 
