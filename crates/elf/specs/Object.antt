@@ -1,5 +1,5 @@
 -- An object by its bytes: its section headers, and their payloads.
-use Rattle.std.specs.Prelude.{ℕ, ◌+◌, ◌*◌, Bool, true, false, cond, not, ◌&&◌, ◌||◌, List, [], length, Ok, Err, Result, ◌==◌, nat_lt}
+use Rattle.std.specs.Prelude.{ℕ, ◌+◌, ◌*◌, Bool, cond, not, ◌&&◌, ◌||◌, List, [], length, Ok, Err, Result, ◌==◌, nat_lt}
 use Rattle.faults.specs.Numbers.{FaultNumbers, direct}
 use Rattle.sources.specs.Source.{part, lies}
 use Rattle.classes.specs.Column.{Column, decoded}

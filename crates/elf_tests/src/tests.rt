@@ -1,8 +1,10 @@
 //! Telling inputs of classes, opening, headers, payloads and the inventory.
 use class32::rel_records::Rel32;
 use class32::rela_records::Rela32;
-use class32::{Class32, SectionHeader};
-use class64::{Class64, SectionHeader};
+use class32::{Class32, SectionHeader32};
+use class64::rel_records::Rel64;
+use class64::rela_records::Rela64;
+use class64::{Class64, SectionHeader64};
 use classes::{Class, Header, Relocation, Sword, Word, symbol};
 use elf::file::ElfFile;
 use elf::section::Sections;
@@ -23,7 +25,7 @@ const PLACES: [u8; 64] = [
 
 #[test]
 fn each_field_of_a_header_has_its_place(rt: HostRuntime) -> Result<(), Fail> {
-    let Some(narrow) = <class32::SectionHeader32 as Pod>::cast(&PLACES) else {
+    let Some(narrow) = <SectionHeader32 as Pod>::cast(&PLACES) else {
         return Err(Fail::new("too few bytes"));
     };
     let little = Header {
@@ -42,7 +44,7 @@ fn each_field_of_a_header_has_its_place(rt: HostRuntime) -> Result<(), Fail> {
         sh_info: 0x1c1d_1e1f,
     };
     assert_eq!(rt; Header::of(&narrow, Endianness::Big), big);
-    let Some(wide) = <class64::SectionHeader64 as Pod>::cast(&PLACES) else {
+    let Some(wide) = <SectionHeader64 as Pod>::cast(&PLACES) else {
         return Err(Fail::new("too few bytes"));
     };
     let little = Header {
@@ -97,7 +99,7 @@ fn each_field_of_a_relocation_has_its_place(rt: HostRuntime) -> Result<(), Fail>
         told(&rela, BigEndian),
         (0x0001_0203, 0x0004_0506, 7, 0x0809_0a0b)
     );
-    let Some(rel) = <class64::rel_records::Rel64 as Pod>::cast(&PLACES) else {
+    let Some(rel) = <Rel64 as Pod>::cast(&PLACES) else {
         return Err(Fail::new("too few bytes"));
     };
     assert_eq!(rt;
@@ -109,7 +111,7 @@ fn each_field_of_a_relocation_has_its_place(rt: HostRuntime) -> Result<(), Fail>
         (0x0001_0203_0405_0607, 0x0809_0a0b, 0x0c0d_0e0f, 0)
     );
     assert_eq!(rt; symbol(&rel, BigEndian), Some(0x0809_0a0b));
-    let Some(rela) = <class64::rela_records::Rela64 as Pod>::cast(&PLACES) else {
+    let Some(rela) = <Rela64 as Pod>::cast(&PLACES) else {
         return Err(Fail::new("too few bytes"));
     };
     assert_eq!(rt;
@@ -121,7 +123,7 @@ fn each_field_of_a_relocation_has_its_place(rt: HostRuntime) -> Result<(), Fail>
             0x1011_1213_1415_1617,
         )
     );
-    assert!(rt; <class64::rela_records::Rela64 as Pod>::cast(&PLACES[0..23]).is_none());
+    assert!(rt; <Rela64 as Pod>::cast(&PLACES[0..23]).is_none());
     Ok(())
 }
 
@@ -131,7 +133,7 @@ fn addends_are_signed_and_symbol_0_is_none(rt: HostRuntime) -> Result<(), Fail> 
         1, 0, 0, 0, 0, 0, 0, 0, 9, 0, 0, 0, 0, 0, 0, 0, 0xfc, 0xff, 0xff, 0xff, 0xff, 0xff, 0xff,
         0xff,
     ];
-    let Some(wide) = <class64::rela_records::Rela64 as Pod>::cast(&stored) else {
+    let Some(wide) = <Rela64 as Pod>::cast(&stored) else {
         return Err(Fail::new("too few bytes"));
     };
     assert_eq!(rt; told(&wide, LittleEndian), (1, 0, 9, -4));

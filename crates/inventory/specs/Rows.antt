@@ -1,5 +1,5 @@
 -- The inventory of an object: a row for each header of its table, in order.
-use Rattle.std.specs.Prelude.{◌≡◌, ℕ, ◌<◌, Bool, true, false, cond, List, map, length, Ok, Err, vec_items, Result, Vec, MatchResult, ◌==◌}
+use Rattle.std.specs.Prelude.{◌≡◌, ℕ, ◌<◌, true, false, cond, List, map, length, Ok, Err, vec_items, Result, Vec, MatchResult, ◌==◌}
 use Rattle.std.specs.List.{range_with_len}
 use Rattle.std.specs.declared.alloc.Global.{Global}
 use Rattle.endian.specs.Chosen.{is_big}

@@ -1,12 +1,10 @@
 -- Words as texts. Assumes nothing.
-use Rattle.std.proofs.Common.{◌≡◌, ℕ, ◌-◌, ◌<◌, ◌≤◌, List, [], ◌∷◌, map, length, get_or, take, drop, Ok, Err, string_bytes, codes, Result, String, sym, refl, ap, ◌∙◌, inl, inr, arith, Bor}
+use Rattle.std.proofs.Common.{◌≡◌, ℕ, ◌-◌, ◌<◌, List, [], map, length, get_or, take, drop, Err, string_bytes, codes, Result, String, sym, ap, ◌∙◌, inl, inr, arith, Bor}
 use Rattle.std.specs.declared.alloc.Global.{Global}
 use Rattle.std.proofs.lemmas.List.{length-map, get_or-map, take_rest, drop-map}
 use Rattle.words.specs.declared.Command.{Command}
-use Rattle.words.specs.declared.Command.TheVariants.{Help, Inventory}
-use Rattle.words.specs.declared.Request.{Request}
 use Rattle.words.specs.declared.Usage.{Usage}
-use Rattle.words.specs.declared.Usage.TheVariants.{NoCommand, UnknownCommand, Arguments, Class, Order, Table, Count}
+use Rattle.words.specs.declared.Usage.TheVariants.{NoCommand, UnknownCommand, Arguments}
 use Rattle.words.specs.Words.{word, Asked, Inventoried, HelpWord, Parsed}
 
 module _ (xs : List (String Global)) where

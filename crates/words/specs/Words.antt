@@ -1,5 +1,5 @@
 -- What the words behind the program's name say.
-use Rattle.std.specs.Prelude.{◌≡◌, ℕ, ◌+◌, ◌^◌, ◌<◌, ◌⊎◌, List, [], ◌∷◌, ◌++◌, length, drop, Some, None, Ok, Err, codes, decimal, Option, Result, MatchOption, ◌≢◌, slice_index_or}
+use Rattle.std.specs.Prelude.{◌≡◌, ℕ, ◌^◌, ◌<◌, ◌⊎◌, List, [], ◌++◌, length, drop, Some, None, Ok, Err, codes, decimal, Option, Result, MatchOption, ◌≢◌, slice_index_or}
 use Rattle.std.specs.Borrow.{Bor}
 use Rattle.std.specs.Str.Parse.{IsNumeral, digits_value, without_leading_plus}
 use Rattle.endian.specs.declared.Endianness.{Endianness}
@@ -8,7 +8,6 @@ use Rattle.inventory.specs.declared.ClassName.{ClassName}
 use Rattle.inventory.specs.declared.ClassName.TheVariants.{Class32, Class64}
 use Rattle.words.specs.declared.Command.{Command}
 use Rattle.words.specs.declared.Command.TheVariants.{Help, Inventory}
-use Rattle.words.specs.declared.Request.{Request}
 use Rattle.words.specs.declared.Usage.{Usage}
 use Rattle.words.specs.declared.Usage.TheVariants.{NoCommand, UnknownCommand, Arguments, Class, Order, Table, Count}
 

@@ -1,4 +1,4 @@
-use Rattle.std.proofs.Common.{◌≡◌, cond, [], ◌∷◌, ◌++◌, is_ok, vec_items, ap, ◌∙◌}
+use Rattle.std.proofs.Common.{cond, [], ◌∷◌, ◌++◌, is_ok, vec_items, ap, ◌∙◌}
 use Rattle.inventory.specs.Rows.{seen}
 use Rattle.inventory.proofs.Listing.{made_is, one_more}
 use Rattle.inventory.proofs.rows.Goals as goal

@@ -1,6 +1,5 @@
 use Rattle.std.proofs.Common.{◌≡◌, true, rules}
 use Rattle.elf.specs.Object.{Object, table_lies}
-use Rattle.elf.specs.Opened.{meaning}
 use Rattle.elf.proofs.Covering.{table_covered}
 use Rattle.elf.proofs.file.ElfFile.open.Goals as goal
 
