@@ -1,8 +1,8 @@
 //! An object over any source, class and byte order.
-ghost use Rattle.std.specs.Prelude.{◌≡◌, ℕ, Bool, IfOk};
+ghost use Rattle.std.specs.Prelude.{IfOk};
 ghost use Rattle.faults.specs.Numbers.{Gives};
 ghost use Rattle.elf.specs.Coverage.{TableCovered};
-ghost use Rattle.elf.specs.Object.{Object, opening};
+ghost use Rattle.elf.specs.Object.{opening};
 ghost use Rattle.elf.specs.Opened.{meaning, Looks, Sound};
 
 use super::section::{Sections, data, is_relocation};

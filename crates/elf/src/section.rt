@@ -1,5 +1,5 @@
 //! Section headers, and the payloads that they describe.
-ghost use Rattle.std.specs.Prelude.{◌≡◌, ℕ, Bool, MatchResult};
+ghost use Rattle.std.specs.Prelude.{◌≡◌, MatchResult};
 ghost use Rattle.faults.specs.Numbers.{Gives};
 ghost use Rattle.elf.specs.Coverage.{Covered, Uncovered};
 ghost use Rattle.elf.specs.Object.{Object, relocates, header_at, section, payload, payload_of};

@@ -2,7 +2,7 @@
 #![tactic(auto)]
 
 ghost use Rattle.std.specs.Prelude.{◌≡◌, ◌<◌, ◌≤◌, [], map, length, Some, ◌==◌, slice_index_or};
-ghost use Rattle.faults.specs.Numbers.{number, cause_number, numbers, direct};
+ghost use Rattle.faults.specs.Numbers.{number, numbers, direct};
 ghost use Rattle.faults.specs.Texts.{happened, why, place, whereabouts, text};
 ghost use Rattle.std.specs.Cmp.Rules.{comparing};
 ghost use Rattle.std.specs.Ordering.{on};

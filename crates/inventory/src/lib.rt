@@ -14,7 +14,6 @@ use elf::file::ElfFile;
 use elf::section::Sections;
 use endian::{Endian, Endianness};
 use faults::{Fault, SectionIndex};
-use sources::read_ref::ReadRef;
 use std::alloc::{AllocFailed as Unplaced, Global};
 
 /// What a section's payload came to.
@@ -128,7 +127,7 @@ fn list<C: Class, E: Endian>(
     count: u64,
     heap: Global,
 ) -> Result<Vec<Row>, Failure>
-    ensures { Takes (record { bytes = bytes.entry.now; column = C.Class.column; big = E.Endian.big endian; table = table; count = count }) result }
+    ensures { Takes (record { bytes = bytes.now; column = C.Class.column; big = E.Endian.big endian; table = table; count = count }) result }
 {
     let object = ElfFile::open(bytes, class, endian, table, count)?;
     rows(&object, heap)
