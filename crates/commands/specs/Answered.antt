@@ -1,11 +1,12 @@
 -- What the program answers.
-use Rattle.std.specs.Prelude.{◌≡◌, ℕ, List, length, Some, None, Ok, Err, Option, Result, String, MatchOption}
+use Rattle.std.specs.Prelude.{◌≡◌, ℕ, ◌^◌, ◌<◌, List, length, Some, None, Ok, Err, Option, Result, String, MatchOption}
 use Rattle.std.specs.declared.alloc.Global.{Global}
 use Rattle.faults.specs.Numbers.{numbers}
 use Rattle.elf.specs.Object.{Object, opening}
 use Rattle.inventory.specs.Rows.{asked}
 use Rattle.words.specs.Words.{Parsed}
 use Rattle.words.specs.declared.Command.{Command}
+use Rattle.words.specs.declared.Command.TheVariants.{Help, Inventory}
 use Rattle.words.specs.declared.Request.{Request}
 use Rattle.words.specs.declared.Usage.{Usage}
 use Rattle.commands.specs.declared.Problem.{Problem}
@@ -32,6 +33,12 @@ wrong (Err (File name e)) = None
 wrong (Err (Refused r len f)) = None
 wrong (Err Memory) = None
 
+-- What words can say: the numbers of an object have at most 64 bits.
+abbrev pub Sayable : Command → Type 0
+Sayable Help = Unit {0}
+Sayable (Inventory q) = (q.table < 2 ^ 64) × (q.count < 2 ^ 64)
+
 -- Words are found wrong exactly where they are.
 abbrev pub Answered : List (List ℕ) → Result (String Global) Problem → Type 0
-Answered words r = MatchOption (wrong r) ((c : Command) × Parsed words (Ok c)) (λ u. Parsed words (Err u))
+Answered words r =
+    MatchOption (wrong r) ((c : Command) × Sayable c × Parsed words (Ok c)) (λ u. Parsed words (Err u))

@@ -1,6 +1,6 @@
 //! What the program answers to words, and to files that it cannot use.
 use super::report::Report;
-use super::{Problem, answer};
+use super::{HELP, Problem, answer};
 use classes::Header;
 use endian::Endianness;
 use faults::{Fault, FaultKind};
@@ -89,7 +89,8 @@ fn words_and_files_are_answered_or_named(rt: HostRuntime) -> Result<(), Fail> {
         true,
         "/dev/null: 0 bytes, 64-bit, big-endian, 0 section headers at 65535\n",
     )?;
-    expect(&rt, &["-h"], true, "boulesbeech reads section headers")
+    expect(&rt, &["-h"], true, "boulesbeech reads section headers")?;
+    expect(&rt, &["help", "me"], true, HELP)
 }
 
 #[test]

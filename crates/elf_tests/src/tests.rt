@@ -68,6 +68,16 @@ fn each_field_of_a_header_has_its_place(rt: HostRuntime) -> Result<(), Fail> {
     Ok(())
 }
 
+#[test]
+fn records_have_the_sizes_of_their_class(rt: HostRuntime) {
+    assert_eq!(rt; ClassName::Class32.header_size(), 40);
+    assert_eq!(rt; <Class32 as Class>::rel_size(), 8);
+    assert_eq!(rt; <Class32 as Class>::rela_size(), 12);
+    assert_eq!(rt; ClassName::Class64.header_size(), 64);
+    assert_eq!(rt; <Class64 as Class>::rel_size(), 16);
+    assert_eq!(rt; <Class64 as Class>::rela_size(), 24);
+}
+
 // What a relocation record tells: offset, symbol, type, addend.
 fn told<W: Word, S: Sword, T: Relocation<W, S>, E: Endian>(
     record: &T,
