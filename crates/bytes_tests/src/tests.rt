@@ -4,7 +4,8 @@ ghost use Rattle.std.proofs.Common.{rules};
 use endian::{BigEndian, Endian, Endianness, LittleEndian};
 use faults::{Cause, Fault, FaultKind};
 use sources::pod::{
-    Pod, field, from_bytes, read_at, read_slice_at, slice_from_all_bytes, slice_from_bytes,
+    Pod, PodBytes, field, from_bytes, read_at, read_slice_at, slice_from_all_bytes,
+    slice_from_bytes,
 };
 use sources::read_ref::{ReadRef, Window};
 use std::test::Fail;
@@ -32,7 +33,9 @@ impl Pod for Pair {
             None => None,
         }
     }
+}
 
+impl PodBytes for Pair {
     fn bytes_of(&self) -> &[u8] {
         &self.0
     }

@@ -8,7 +8,7 @@ use classes::{Class, SectionHeader};
 use endian::Endian;
 use rel_records::Rel32;
 use rela_records::Rela32;
-use sources::pod::{Pod, field};
+use sources::pod::{Pod, PodBytes, field};
 
 pub mod rel_records;
 pub mod rela_records;
@@ -35,7 +35,9 @@ impl Pod for SectionHeader32 {
             None => None,
         }
     }
+}
 
+impl PodBytes for SectionHeader32 {
     fn bytes_of(&self) -> &[u8] {
         &self.0
     }

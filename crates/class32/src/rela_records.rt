@@ -4,7 +4,7 @@ ghost use Rattle.std.proofs.Common.{rules};
 
 use classes::{Rela, Relocation};
 use endian::Endian;
-use sources::pod::{Pod, field};
+use sources::pod::{Pod, PodBytes, field};
 
 /// RELA of 32-bit objects.
 #[derive(Clone, Copy)]
@@ -29,7 +29,9 @@ impl Pod for Rela32 {
             None => None,
         }
     }
+}
 
+impl PodBytes for Rela32 {
     fn bytes_of(&self) -> &[u8] {
         &self.0
     }

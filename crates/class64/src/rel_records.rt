@@ -5,7 +5,7 @@ ghost use Rattle.std.proofs.Common.{rules};
 
 use classes::{Rel, Relocation};
 use endian::Endian;
-use sources::pod::{Pod, field};
+use sources::pod::{Pod, PodBytes, field};
 
 /// REL of 64-bit objects.
 #[derive(Clone, Copy)]
@@ -30,7 +30,9 @@ impl Pod for Rel64 {
             None => None,
         }
     }
+}
 
+impl PodBytes for Rel64 {
     fn bytes_of(&self) -> &[u8] {
         &self.0
     }

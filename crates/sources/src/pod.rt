@@ -22,13 +22,16 @@ pub trait Pod: Copy {
             (length bytes.now < width)
             (λ v. (stored v ≡ take width bytes.now) × (width ≤ length bytes.now)) };
 
-    /// The bytes of a record: as many as every other has.
-    fn bytes_of(&self) -> &[u8]
-        ensures { (result.now ≡ stored self.now) × (length result.now ≡ width) };
-
     ghost some: { 0 < width };
 
     ghost one: { (v w : Self) → stored v ≡ stored w → v ≡ w };
+}
+
+/// Records that hand out their bytes.
+pub trait PodBytes: Pod {
+    /// The bytes of a record: as many as every other has.
+    fn bytes_of(&self) -> &[u8]
+        ensures { (result.now ≡ Self.Pod.stored self.now) × (length result.now ≡ Self.Pod.width) };
 }
 
 /// The `N` bytes of a record from a place on; zeros where it does not have so many.
