@@ -1,77 +1,86 @@
-//! 32-bit objects: section headers and relocation records.
+//! 32-bit objects: the layout of their section headers and relocation records.
 #![tactic(auto)]
 
 ghost use Rattle.classes.specs.Column.{class32};
 ghost use Rattle.std.proofs.Common.{rules};
 
-use classes::{Class, SectionHeader};
+use classes::Class;
 use endian::Endian;
-use rel_records::Rel32;
-use rela_records::Rela32;
-use sources::pod::{Pod, PodBytes, field};
-
-pub mod rel_records;
-pub mod rela_records;
-
-#[derive(Clone, Copy)]
-pub struct SectionHeader32([u8; 40]);
-
-impl Pod for SectionHeader32 {
-    ghost width = { 40 };
-
-    ghost stored = { λ v. v.0 };
-
-    ghost some = { Prim.search rules };
-
-    ghost one = { Prim.search rules };
-
-    fn size_of() -> usize {
-        40
-    }
-
-    fn cast(bytes: &[u8]) -> Option<SectionHeader32> {
-        match bytes.first_chunk::<40>() {
-            Some(stored) => Some(SectionHeader32(*stored)),
-            None => None,
-        }
-    }
-}
-
-impl PodBytes for SectionHeader32 {
-    fn bytes_of(&self) -> &[u8] {
-        &self.0
-    }
-}
-
-impl SectionHeader<u32> for SectionHeader32 {
-    ghost column = { class32 };
-
-    ghost size = { Prim.search rules };
-
-    fn sh_type<E: Endian>(&self, endian: E) -> u32 {
-        endian.read_u32(field(&self.0, 4))
-    }
-
-    fn sh_offset<E: Endian>(&self, endian: E) -> u32 {
-        endian.read_u32(field(&self.0, 16))
-    }
-
-    fn sh_size<E: Endian>(&self, endian: E) -> u32 {
-        endian.read_u32(field(&self.0, 20))
-    }
-
-    fn sh_link<E: Endian>(&self, endian: E) -> u32 {
-        endian.read_u32(field(&self.0, 24))
-    }
-
-    fn sh_info<E: Endian>(&self, endian: E) -> u32 {
-        endian.read_u32(field(&self.0, 28))
-    }
-}
+use records::{Headers, Layout, Places, Record, Relas, Rels, Stores};
+use sources::pod::field;
 
 /// The class of 32-bit objects.
 #[derive(Clone, Copy)]
 pub struct Class32;
+
+/// A section header of a 32-bit object.
+pub type SectionHeader32 = Record<Headers, Class32, 40>;
+
+/// REL of 32-bit objects.
+pub type Rel32 = Record<Rels, Class32, 8>;
+
+/// RELA of 32-bit objects.
+pub type Rela32 = Record<Relas, Class32, 12>;
+
+impl Stores<Headers, 40> for Class32 {
+    ghost size = { Prim.search rules };
+
+    ghost some = { Prim.search rules };
+}
+
+impl Stores<Rels, 8> for Class32 {
+    ghost size = { Prim.search rules };
+
+    ghost some = { Prim.search rules };
+}
+
+impl Stores<Relas, 12> for Class32 {
+    ghost size = { Prim.search rules };
+
+    ghost some = { Prim.search rules };
+}
+
+impl Layout for Class32 {
+    type Word = u32;
+
+    type Sword = i32;
+
+    ghost column = { class32 };
+
+    ghost regular = { Prim.search rules };
+
+    fn places() -> Places {
+        Places {
+            sh_type: 4,
+            sh_offset: 16,
+            sh_size: 20,
+            sh_link: 24,
+            sh_info: 28,
+            r_offset: 0,
+            r_addend: 8,
+        }
+    }
+
+    fn word<E: Endian>(bytes: &[u8], at: usize, endian: E) -> u32 {
+        endian.read_u32(field(bytes, at))
+    }
+
+    fn sword<E: Endian>(bytes: &[u8], at: usize, endian: E) -> i32 {
+        endian.read_i32(field(bytes, at))
+    }
+
+    fn no_addend() -> i32 {
+        0i32
+    }
+
+    fn r_sym<E: Endian>(bytes: &[u8], endian: E) -> u32 {
+        endian.read_u32(field(bytes, 4)) / 256
+    }
+
+    fn r_type<E: Endian>(bytes: &[u8], endian: E) -> u32 {
+        endian.read_u32(field(bytes, 4)) % 256
+    }
+}
 
 impl Class for Class32 {
     type Word = u32;

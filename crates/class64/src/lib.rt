@@ -1,77 +1,86 @@
-//! 64-bit objects: section headers and relocation records.
+//! 64-bit objects: the layout of their section headers and relocation records.
 #![tactic(auto)]
 
 ghost use Rattle.classes.specs.Column.{class64};
 ghost use Rattle.std.proofs.Common.{rules};
 
-use classes::{Class, SectionHeader};
+use classes::Class;
 use endian::Endian;
-use rel_records::Rel64;
-use rela_records::Rela64;
-use sources::pod::{Pod, PodBytes, field};
-
-pub mod rel_records;
-pub mod rela_records;
-
-#[derive(Clone, Copy)]
-pub struct SectionHeader64([u8; 64]);
-
-impl Pod for SectionHeader64 {
-    ghost width = { 64 };
-
-    ghost stored = { λ v. v.0 };
-
-    ghost some = { Prim.search rules };
-
-    ghost one = { Prim.search rules };
-
-    fn size_of() -> usize {
-        64
-    }
-
-    fn cast(bytes: &[u8]) -> Option<SectionHeader64> {
-        match bytes.first_chunk::<64>() {
-            Some(stored) => Some(SectionHeader64(*stored)),
-            None => None,
-        }
-    }
-}
-
-impl PodBytes for SectionHeader64 {
-    fn bytes_of(&self) -> &[u8] {
-        &self.0
-    }
-}
-
-impl SectionHeader<u64> for SectionHeader64 {
-    ghost column = { class64 };
-
-    ghost size = { Prim.search rules };
-
-    fn sh_type<E: Endian>(&self, endian: E) -> u32 {
-        endian.read_u32(field(&self.0, 4))
-    }
-
-    fn sh_offset<E: Endian>(&self, endian: E) -> u64 {
-        endian.read_u64(field(&self.0, 24))
-    }
-
-    fn sh_size<E: Endian>(&self, endian: E) -> u64 {
-        endian.read_u64(field(&self.0, 32))
-    }
-
-    fn sh_link<E: Endian>(&self, endian: E) -> u32 {
-        endian.read_u32(field(&self.0, 40))
-    }
-
-    fn sh_info<E: Endian>(&self, endian: E) -> u32 {
-        endian.read_u32(field(&self.0, 44))
-    }
-}
+use records::{Headers, Layout, Places, Record, Relas, Rels, Stores};
+use sources::pod::field;
 
 /// The class of 64-bit objects.
 #[derive(Clone, Copy)]
 pub struct Class64;
+
+/// A section header of a 64-bit object.
+pub type SectionHeader64 = Record<Headers, Class64, 64>;
+
+/// REL of 64-bit objects.
+pub type Rel64 = Record<Rels, Class64, 16>;
+
+/// RELA of 64-bit objects.
+pub type Rela64 = Record<Relas, Class64, 24>;
+
+impl Stores<Headers, 64> for Class64 {
+    ghost size = { Prim.search rules };
+
+    ghost some = { Prim.search rules };
+}
+
+impl Stores<Rels, 16> for Class64 {
+    ghost size = { Prim.search rules };
+
+    ghost some = { Prim.search rules };
+}
+
+impl Stores<Relas, 24> for Class64 {
+    ghost size = { Prim.search rules };
+
+    ghost some = { Prim.search rules };
+}
+
+impl Layout for Class64 {
+    type Word = u64;
+
+    type Sword = i64;
+
+    ghost column = { class64 };
+
+    ghost regular = { Prim.search rules };
+
+    fn places() -> Places {
+        Places {
+            sh_type: 4,
+            sh_offset: 24,
+            sh_size: 32,
+            sh_link: 40,
+            sh_info: 44,
+            r_offset: 0,
+            r_addend: 16,
+        }
+    }
+
+    fn word<E: Endian>(bytes: &[u8], at: usize, endian: E) -> u64 {
+        endian.read_u64(field(bytes, at))
+    }
+
+    fn sword<E: Endian>(bytes: &[u8], at: usize, endian: E) -> i64 {
+        endian.read_i64(field(bytes, at))
+    }
+
+    fn no_addend() -> i64 {
+        0i64
+    }
+
+    fn r_sym<E: Endian>(bytes: &[u8], endian: E) -> u32 {
+        (endian.read_u64(field(bytes, 8)) / 4294967296) as u32
+    }
+
+    fn r_type<E: Endian>(bytes: &[u8], endian: E) -> u32 {
+        (endian.read_u64(field(bytes, 8)) % 4294967296) as u32
+    }
+}
 
 impl Class for Class64 {
     type Word = u64;
