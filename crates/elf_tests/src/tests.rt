@@ -1,10 +1,6 @@
 //! Telling inputs of classes, opening, headers, payloads and the inventory.
-use class32::rel_records::Rel32;
-use class32::rela_records::Rela32;
-use class32::{Class32, SectionHeader32};
-use class64::rel_records::Rel64;
-use class64::rela_records::Rela64;
-use class64::{Class64, SectionHeader64};
+use class32::{Class32, Rel32, Rela32, SectionHeader32};
+use class64::{Class64, Rel64, Rela64, SectionHeader64};
 use classes::{Class, Header, Relocation, Sword, Word, symbol};
 use elf::file::ElfFile;
 use elf::section::Sections;
