@@ -1,9 +1,12 @@
 //! The order of the bytes of a number.
 #![tactic(auto)]
 
-ghost use Rattle.std.specs.Prelude.{◌≡◌, Bool, true, false, not};
-ghost use Rattle.endian.specs.Chosen.{is_big};
-ghost use Rattle.endian.specs.Order.{number, signed};
+ghost use Rattle.std.specs.Prelude.{◌≡◌, Bool, true, false, not, Some, MatchResult};
+ghost use Rattle.endian.specs.Chosen.{is_big, order_word, NoOrder};
+ghost use Rattle.endian.specs.Order.{little, number, signed};
+
+use std::fmt;
+use std::str::FromStr;
 
 /// A byte order, by whether it is big-endian.
 pub trait Endian: Copy {
@@ -21,31 +24,20 @@ pub trait Endian: Copy {
     fn read_u16(self, n: [u8; 2]) -> u16
         ensures { result ≡ number (big self) n }
     {
-        if self.is_big_endian() {
-            u16::from_be_bytes(n)
-        } else {
-            u16::from_le_bytes(n)
-        }
+        u16::from_le_bytes(lowest_first(self.is_big_endian(), n))
     }
 
     fn read_u32(self, n: [u8; 4]) -> u32
         ensures { result ≡ number (big self) n }
     {
-        if self.is_big_endian() {
-            u32::from_be_bytes(n)
-        } else {
-            u32::from_le_bytes(n)
-        }
+        u32::from_le_bytes(lowest_first(self.is_big_endian(), n))
     }
 
+    #[tactic(auto, using(crate::proofs::Order::little_of_eight))]
     fn read_u64(self, n: [u8; 8]) -> u64
         ensures { result ≡ number (big self) n }
     {
-        if self.is_big_endian() {
-            u64::from_be_bytes(n)
-        } else {
-            u64::from_le_bytes(n)
-        }
+        u64::from_le_bytes(lowest_first(self.is_big_endian(), n))
     }
 
     fn read_i16(self, n: [u8; 2]) -> i16
@@ -65,6 +57,16 @@ pub trait Endian: Copy {
     {
         self.read_u64(n).cast_signed()
     }
+}
+
+// The bytes of a number with the lowest first, whichever stands first in them.
+fn lowest_first<const N: usize>(big: bool, mut bytes: [u8; N]) -> [u8; N]
+    ensures { little result ≡ number big bytes.entry }
+{
+    if big {
+        bytes.reverse();
+    }
+    bytes
 }
 
 /// The lowest byte first.
@@ -105,6 +107,35 @@ impl Endian for Endianness {
         match self {
             Endianness::Little => false,
             Endianness::Big => true,
+        }
+    }
+}
+
+impl fmt::Display for Endianness {
+    ghost output = { λ o. Some (order_word o) };
+
+    fn fmt<W: fmt::Write>(&self, f: &mut fmt::Formatter<W>) -> fmt::Result {
+        f.write_str(match self {
+            Endianness::Little => "little",
+            Endianness::Big => "big",
+        })
+    }
+}
+
+/// A word that names no order.
+#[derive(Clone, Copy, PartialEq, Eq, Debug)]
+pub struct UnknownOrder;
+
+impl FromStr for Endianness {
+    type Err = UnknownOrder;
+
+    ghost from_str_gives = { λ word r. MatchResult r (λ o. word ≡ order_word o) (λ _. NoOrder word) };
+
+    fn from_str(word: &str) -> Result<Endianness, UnknownOrder> {
+        match word {
+            "little" => Ok(Endianness::Little),
+            "big" => Ok(Endianness::Big),
+            _ => Err(UnknownOrder),
         }
     }
 }

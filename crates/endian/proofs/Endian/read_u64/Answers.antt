@@ -1,9 +1,0 @@
-use Rattle.std.proofs.Common.{arith, rules}
-use Rattle.endian.proofs.Order.{number-little, number-big}
-use Rattle.endian.proofs.Endian.read_u64.Goals as goal
-
-pub returns-then-is_big_endian : goal.returns-then-is_big_endian
-returns-then-is_big_endian g c = omega (arith, number-big (g.Self.Endian.big c.args.self) c.args.n 8 (search rules) c.if-is_big_endian.ensures)
-
-pub returns-else-is_big_endian : goal.returns-else-is_big_endian
-returns-else-is_big_endian g c = omega (arith, number-little (g.Self.Endian.big c.args.self) c.args.n 8 (search rules) c.if-is_big_endian.ensures)
