@@ -3,6 +3,7 @@
 
 ghost use Rattle.std.specs.Prelude.{◌≡◌, ◌<◌, ◌≤◌, [], map, length, Some, ◌==◌, slice_index_or};
 ghost use Rattle.faults.specs.Numbers.{number, numbers, direct};
+ghost use Rattle.faults.specs.declared.FaultKind.{FaultKind};
 ghost use Rattle.faults.specs.Texts.{happened, why, place, whereabouts, text};
 ghost use Rattle.std.specs.Cmp.Rules.{comparing};
 ghost use Rattle.std.specs.Ordering.{on};
@@ -15,7 +16,7 @@ use std::fmt;
 pub type SectionIndex = u16;
 
 /// What happened. `number` has the number of each.
-#[derive(Clone, Copy, Eq, Debug)]
+#[derive(Clone, Copy, PartialEq, Eq, Debug)]
 pub enum FaultKind {
     HeaderTableOutside = 1,
     TooManyHeaders = 2,
@@ -56,6 +57,7 @@ impl FaultKind {
     pub fn number(self) -> u8
         ensures value { result ≡ number self }
         ensures bound { (0 < result) × (result ≤ 32) }
+        ensures tells_apart { (k : FaultKind) → ⟦<FaultKind as PartialEq>⟧.eq self k ≡ (result == number k) }
     {
         self as u8
     }
@@ -64,61 +66,46 @@ impl FaultKind {
     pub fn what(self) -> &'static str
         ensures { result.now ≡ happened self }
     {
-        pick(&TEXTS, self.number() as usize - 1)
+        match self {
+            FaultKind::HeaderTableOutside => "the section header table lies outside the source",
+            FaultKind::TooManyHeaders => "more than 65535 section headers",
+            FaultKind::FirstHeaderRelocates => "the first section header is a relocation section's",
+            FaultKind::ChainTableWrongLength =>
+                "the chain's table has not one number for each section header",
+            FaultKind::NoSuchSection => "no section has that number",
+            FaultKind::TargetRelocates => "the target is a relocation section itself",
+            FaultKind::ChainOfOtherCount =>
+                "the chain was made for another number of section headers",
+            FaultKind::WindowOutside => "the window reaches past its source",
+            FaultKind::SourceTooLong => "the source is longer than 4294967295 bytes",
+            FaultKind::InfoOutside => "sh_info is past the last section header",
+            FaultKind::InfoRelocates => "sh_info names a relocation section",
+            FaultKind::PayloadOutside => "the payload lies outside the source",
+            FaultKind::PayloadNotWholeRecords =>
+                "the payload is not made of whole relocation records",
+            FaultKind::GroupNotWholeWords => "the group's length is 0 or no multiple of 4",
+            FaultKind::CrelHeaderUnreadable => "the CREL header is unreadable",
+            FaultKind::CrelOffsetUnreadable => "a CREL record's offset and flags are unreadable",
+            FaultKind::CrelSymbolUnreadable => "a CREL record's symbol is unreadable",
+            FaultKind::CrelTypeUnreadable => "a CREL record's type is unreadable",
+            FaultKind::CrelAddendUnreadable => "a CREL record's addend is unreadable",
+            FaultKind::AttributesVersionUnknown => "build attributes of an unknown version",
+            FaultKind::SubsectionTooShort => "too few bytes for a subsection's length",
+            FaultKind::SubsectionLengthWrong =>
+                "a subsection's length is under 4 or past the payload's end",
+            FaultKind::VendorUnended => "a subsection's vendor name has no end",
+            FaultKind::BlockTooShort => "too few bytes for a block's tag and length",
+            FaultKind::BlockLengthWrong =>
+                "a block's length is under 5 or past its subsection's end",
+            FaultKind::IndexListUnended => "a block's index list has no end",
+            FaultKind::BlockTagUnknown => "a block's tag is none of 1, 2 and 3",
+            FaultKind::IndexTooWide => "an index of a block is wider than 32 bits",
+            FaultKind::AttributeTagUnreadable => "an attribute's tag is unreadable",
+            FaultKind::AttributeIntegerUnreadable => "an attribute's integer is unreadable",
+            FaultKind::AttributeStringUnended => "an attribute's text has no end",
+            FaultKind::ForeignChain => "the chain belongs to another object",
+        }
     }
-}
-
-// Kinds are equal where their numbers are.
-impl PartialEq for FaultKind {
-    ghost eq = { on number ◌==◌ };
-
-    ghost laws = { Keys.partial_equiv_from_equiv (Prim.search (comparing, rules)) };
-
-    fn eq(&self, other: &FaultKind) -> bool {
-        self.number() == other.number()
-    }
-}
-
-const TEXTS: [&str; 32] = [
-    "the section header table lies outside the source",
-    "more than 65535 section headers",
-    "the first section header is a relocation section's",
-    "the chain's table has not one number for each section header",
-    "no section has that number",
-    "the target is a relocation section itself",
-    "the chain was made for another number of section headers",
-    "the window reaches past its source",
-    "the source is longer than 4294967295 bytes",
-    "sh_info is past the last section header",
-    "sh_info names a relocation section",
-    "the payload lies outside the source",
-    "the payload is not made of whole relocation records",
-    "the group's length is 0 or no multiple of 4",
-    "the CREL header is unreadable",
-    "a CREL record's offset and flags are unreadable",
-    "a CREL record's symbol is unreadable",
-    "a CREL record's type is unreadable",
-    "a CREL record's addend is unreadable",
-    "build attributes of an unknown version",
-    "too few bytes for a subsection's length",
-    "a subsection's length is under 4 or past the payload's end",
-    "a subsection's vendor name has no end",
-    "too few bytes for a block's tag and length",
-    "a block's length is under 5 or past its subsection's end",
-    "a block's index list has no end",
-    "a block's tag is none of 1, 2 and 3",
-    "an index of a block is wider than 32 bits",
-    "an attribute's tag is unreadable",
-    "an attribute's integer is unreadable",
-    "an attribute's text has no end",
-    "the chain belongs to another object",
-];
-
-fn pick(texts: &[&'static str], index: usize) -> &'static str
-    requires { index < length texts.now }
-    ensures { result.now ≡ slice_index_or (map (λ x. x.now) texts.now) index [] }
-{
-    texts[index]
 }
 
 /// Why a number could not be read.
