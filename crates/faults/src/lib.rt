@@ -1,14 +1,10 @@
 //! What can be wrong with an object, or with what a caller asks of it.
 #![tactic(auto)]
 
-ghost use Rattle.std.specs.Prelude.{◌≡◌, ◌<◌, ◌≤◌, [], map, length, Some, ◌==◌, slice_index_or};
+ghost use Rattle.std.specs.Prelude.{◌≡◌, ◌<◌, ◌≤◌, ◌==◌, Some};
 ghost use Rattle.faults.specs.Numbers.{number, numbers, direct};
-ghost use Rattle.faults.specs.declared.FaultKind.{FaultKind};
 ghost use Rattle.faults.specs.Texts.{happened, why, place, whereabouts, text};
-ghost use Rattle.std.specs.Cmp.Rules.{comparing};
-ghost use Rattle.std.specs.Ordering.{on};
-ghost use Rattle.std.proofs.Common.{rules};
-ghost use Rattle.std.specs.Cmp as Keys;
+ghost use Rattle.faults.specs.declared.FaultKind.{FaultKind};
 
 use std::fmt;
 
@@ -190,10 +186,16 @@ impl fmt::Display for Place {
     fn fmt<W: fmt::Write>(&self, f: &mut fmt::Formatter<W>) -> fmt::Result {
         match *self {
             Place::Unstated => Ok(()),
-            Place::Section(s) => write!(f, ", in section {s}"),
-            Place::Record(s, a) => write!(f, ", in section {s}, record {a}"),
-            Place::Subsection(s, a) => write!(f, ", in section {s}, subsection {a}"),
-            Place::Block(s, a, b) => write!(f, ", in section {s}, subsection {a}, block {b}"),
+            Place::Section(section) => write!(f, ", in section {section}"),
+            Place::Record(section, record) => write!(f, ", in section {section}, record {record}"),
+            Place::Subsection(section, subsection) => write!(
+                f,
+                ", in section {section}, subsection {subsection}"
+            ),
+            Place::Block(section, subsection, block) => write!(
+                f,
+                ", in section {section}, subsection {subsection}, block {block}"
+            ),
         }
     }
 }
