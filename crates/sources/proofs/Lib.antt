@@ -1,3 +1,2 @@
-pub mod Options
 mod Record
 pub mod Source

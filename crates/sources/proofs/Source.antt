@@ -13,3 +13,6 @@ part-part bs start room offset size h =
     ∙ ap (take size) (drop-take offset (room - offset) (drop start bs))
     ∙ take-take size (room - offset) (drop offset (drop start bs)) (omega arith)
     ∙ ap (take size) (drop-drop offset start bs)
+
+-- both laws
+pub ruleset parts = (part-part, length_part)

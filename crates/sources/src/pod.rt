@@ -1,5 +1,6 @@
 //! Fixed records, read from bytes.
 ghost use Rattle.std.specs.Prelude.{◌≡◌, ℕ, ◌+◌, ◌*◌, ◌/◌, ◌%◌, ◌<◌, ◌≤◌, List, length, take, drop, replicate, MatchOption, MatchResult, ◌==◌, ◌≢◌};
+ghost use Rattle.sources.specs.Held.{records_bytes};
 ghost use Rattle.sources.specs.Record.{records, record_at};
 ghost use Rattle.sources.specs.Source.{part, Lies, Outside};
 
@@ -38,13 +39,8 @@ pub trait PodBytes: Pod {
 pub fn field<const N: usize>(bytes: &[u8], at: usize) -> [u8; N]
     ensures { (at + N ≤ length bytes.now → result ≡ part bytes.now at N) × (length bytes.now < at + N → result ≡ replicate N 0) }
 {
-    if at > bytes.len() {
-        return [0; N];
-    }
-    match bytes[at..].first_chunk::<N>() {
-        Some(stored) => *stored,
-        None => [0; N],
-    }
+    let rest = bytes.get(at..).unwrap_or(&[]);
+    rest.first_chunk().copied().unwrap_or([0; N])
 }
 
 /// The record at the front of bytes, and what follows it.
@@ -53,20 +49,8 @@ pub fn from_bytes<T: Pod>(bytes: &[u8]) -> Result<(T, &[u8]), ()>
         (λ p. (T.Pod.stored p.0 ≡ take T.Pod.width bytes.now) × (p.1.now ≡ drop T.Pod.width bytes.now) × (T.Pod.width ≤ length bytes.now))
         (λ _. length bytes.now < T.Pod.width) }
 {
-    match T::cast(bytes) {
-        Some(record) => Ok((record, &bytes[T::size_of()..])),
-        None => Err(()),
-    }
-}
-
-// The bytes that `count` records of `size` bytes take, if there is room for them.
-fn span(count: usize, size: usize, room: usize) -> Option<usize>
-    ensures { MatchOption result (room < count * size) (λ n. (n ≡ count * size) × (n ≤ room)) }
-{
-    match count.checked_mul(size) {
-        Some(n) if n <= room => Some(n),
-        _ => None,
-    }
+    let record = T::cast(bytes).ok_or(())?;
+    Ok((record, &bytes[T::size_of()..]))
 }
 
 /// Records that stand one after another.
@@ -76,15 +60,26 @@ pub struct Records<'a, T> {
     of: PhantomData<T>,
 }
 
+impl<'a, T> Records<'a, T> {
+    fn new(bytes: &'a [u8]) -> Self
+        ensures { records_bytes result ≡ bytes.now }
+    {
+        Records {
+            bytes,
+            of: PhantomData,
+        }
+    }
+}
+
 impl<'a, T: Pod> Records<'a, T> {
     pub fn len(&self) -> usize
-        ensures { result ≡ records T.Pod.width self.now.bytes.now }
+        ensures { result ≡ records T.Pod.width (records_bytes self.now) }
     {
         self.bytes.len() / T::size_of()
     }
 
     pub fn is_empty(&self) -> bool
-        ensures { result ≡ (records T.Pod.width self.now.bytes.now == 0) }
+        ensures { result ≡ (records T.Pod.width (records_bytes self.now) == 0) }
     {
         self.len() == 0
     }
@@ -92,48 +87,35 @@ impl<'a, T: Pod> Records<'a, T> {
     /// The record at an index, none past the last.
     pub fn get(&self, index: usize) -> Option<T>
         ensures { MatchOption result
-            (records T.Pod.width self.now.bytes.now ≤ index)
-            (λ v. (T.Pod.stored v ≡ record_at T.Pod.width self.now.bytes.now index) × (index < records T.Pod.width self.now.bytes.now)) }
+            (records T.Pod.width (records_bytes self.now) ≤ index)
+            (λ v. (T.Pod.stored v ≡ record_at T.Pod.width (records_bytes self.now) index) × (index < records T.Pod.width (records_bytes self.now))) }
     {
-        let bytes = self.bytes;
-        match span(index, T::size_of(), bytes.len()) {
-            Some(start) => T::cast(&bytes[start..]),
-            None => None,
-        }
+        let start = index.checked_mul(T::size_of())?;
+        T::cast(self.bytes.get(start..)?)
     }
 }
 
 /// The first `count` records, and what follows them.
 pub fn slice_from_bytes<T: Pod>(bytes: &[u8], count: usize) -> Result<(Records<'_, T>, &[u8]), ()>
     ensures { MatchResult result
-        (λ p. (p.0.bytes.now ≡ take (count * T.Pod.width) bytes.now) × (p.1.now ≡ drop (count * T.Pod.width) bytes.now) × (count * T.Pod.width ≤ length bytes.now))
+        (λ p. (records_bytes p.0 ≡ take (count * T.Pod.width) bytes.now) × (p.1.now ≡ drop (count * T.Pod.width) bytes.now) × (count * T.Pod.width ≤ length bytes.now))
         (λ _. length bytes.now < count * T.Pod.width) }
 {
-    match span(count, T::size_of(), bytes.len()) {
-        Some(size) => {
-            let records = Records {
-                bytes: &bytes[0..size],
-                of: PhantomData,
-            };
-            Ok((records, &bytes[size..]))
-        }
-        None => Err(()),
-    }
+    let size = count.checked_mul(T::size_of()).ok_or(())?;
+    let (stored, rest) = bytes.split_at_checked(size).ok_or(())?;
+    Ok((Records::new(stored), rest))
 }
 
 /// All of the bytes as records, refused if they are not whole records.
 pub fn slice_from_all_bytes<T: Pod>(bytes: &[u8]) -> Result<Records<'_, T>, ()>
     ensures { MatchResult result
-        (λ s. (s.bytes.now ≡ bytes.now) × (length bytes.now % T.Pod.width ≡ 0))
+        (λ s. (records_bytes s ≡ bytes.now) × (length bytes.now % T.Pod.width ≡ 0))
         (λ _. (length bytes.now % T.Pod.width ≢ 0)) }
 {
     if bytes.len() % T::size_of() != 0 {
         return Err(());
     }
-    Ok(Records {
-        bytes,
-        of: PhantomData,
-    })
+    Ok(Records::new(bytes))
 }
 
 /// The record at an offset of a source.
@@ -143,10 +125,7 @@ pub fn read_at<'a, T: Pod, R: ReadRef<'a>>(source: R, offset: u64) -> Result<T, 
         (λ _. length (R.ReadRef.bytes source) < offset + T.Pod.width) }
 {
     let bytes = source.read_bytes_at(offset, T::size_of() as u64)?;
-    match T::cast(bytes) {
-        Some(record) => Ok(record),
-        None => Err(()),
-    }
+    T::cast(bytes).ok_or(())
 }
 
 /// `count` records from an offset of a source on.
@@ -156,17 +135,14 @@ pub fn read_slice_at<'a, T: Pod, R: ReadRef<'a>>(
     count: u64,
 ) -> Result<Records<'a, T>, ()>
     ensures { MatchResult result
-        (λ s. (s.bytes.now ≡ part (R.ReadRef.bytes source) offset (count * T.Pod.width)) × Lies (length (R.ReadRef.bytes source)) offset (count * T.Pod.width))
+        (λ s. (records_bytes s ≡ part (R.ReadRef.bytes source) offset (count * T.Pod.width)) × Lies (length (R.ReadRef.bytes source)) offset (count * T.Pod.width))
         (λ _. Outside (length (R.ReadRef.bytes source)) offset (count * T.Pod.width)) }
 {
-    let Some(size) = span(count as usize, T::size_of(), source.len() as usize) else {
+    let room = source.len();
+    let size = count.checked_mul(T::size_of() as u64).ok_or(())?;
+    if size > room {
         return Err(());
-    };
-    match source.read_bytes_at(offset, size as u64) {
-        Ok(bytes) => Ok(Records {
-            bytes,
-            of: PhantomData,
-        }),
-        Err(()) => Err(()),
     }
+    let bytes = source.read_bytes_at(offset, size)?;
+    Ok(Records::new(bytes))
 }

@@ -1,6 +1,7 @@
 //! Where bytes come from.
-ghost use Rattle.std.specs.Prelude.{◌≡◌, ℕ, ◌+◌, ◌^◌, ◌<◌, ◌≤◌, List, length, MatchResult};
+ghost use Rattle.std.specs.Prelude.{◌≡◌, ℕ, ◌+◌, ◌^◌, ◌<◌, ◌≤◌, List, length, MatchResult, IsTrue, ◌↔◌};
 ghost use Rattle.faults.specs.Numbers.{numbers, direct};
+ghost use Rattle.sources.specs.Held.{window_bytes};
 ghost use Rattle.sources.specs.Source.{part, Lies, Outside};
 
 use faults::{Fault, FaultKind};
@@ -31,13 +32,16 @@ impl<'a> ReadRef<'a> for &'a [u8] {
         if size == 0 {
             return Ok(&[]);
         }
-        let slice: &'a [u8] = self;
-        let len = slice.len() as u64;
-        if offset > len || size > len - offset {
-            return Err(());
-        }
-        Ok(&slice[offset as usize..(offset + size) as usize])
+        let rest = self.get(offset as usize..).ok_or(())?;
+        rest.get(..size as usize).ok_or(())
     }
+}
+
+// Whether `size` bytes from `offset` on lie in `len` bytes, also where `size` is 0.
+fn is_within(len: u64, offset: u64, size: u64) -> bool
+    ensures { IsTrue result ↔ (offset + size ≤ len) }
+{
+    offset.checked_add(size).is_some_and(|end| end <= len)
 }
 
 /// A part of another source, as a source of its own.
@@ -52,11 +56,10 @@ impl<'a, R: ReadRef<'a>> Window<R> {
     /// The window of `size` bytes from `start` on. Unlike a part, an empty window has to lie in its source.
     pub fn new(source: R, start: u64, size: u64) -> Result<Window<R>, Fault>
         ensures { MatchResult result
-            (λ w. (part (R.ReadRef.bytes w.source) w.start w.size ≡ part (R.ReadRef.bytes source) start size) × (start + size ≤ length (R.ReadRef.bytes source)))
+            (λ w. (window_bytes R.ReadRef.bytes w ≡ part (R.ReadRef.bytes source) start size) × (start + size ≤ length (R.ReadRef.bytes source)))
             (λ e. (numbers e ≡ direct 8) × (length (R.ReadRef.bytes source) < start + size)) }
     {
-        let len = source.len();
-        if start > len || size > len - start {
+        if !is_within(source.len(), start, size) {
             return Err(Fault::direct(FaultKind::WindowOutside));
         }
         Ok(Window {
@@ -68,7 +71,7 @@ impl<'a, R: ReadRef<'a>> Window<R> {
 
     // The bytes that the source has for it: all of them, in a window that `new` made.
     fn held(self) -> u64
-        ensures len { result ≡ length (part (R.ReadRef.bytes self.source) self.start self.size) }
+        ensures len { result ≡ length (window_bytes R.ReadRef.bytes self) }
         ensures fits { length (R.ReadRef.bytes self.source) < 2 ^ 64 }
     {
         self.size.min(self.source.len().saturating_sub(self.start))
@@ -76,18 +79,18 @@ impl<'a, R: ReadRef<'a>> Window<R> {
 }
 
 impl<'a, R: ReadRef<'a>> ReadRef<'a> for Window<R> {
-    ghost bytes = { λ w. part (R.ReadRef.bytes w.source) w.start w.size };
+    ghost bytes = { window_bytes R.ReadRef.bytes };
 
     fn len(self) -> u64 {
         self.held()
     }
 
+    #[tactic(auto, using(crate::proofs::Source::parts))]
     fn read_bytes_at(self, offset: u64, size: u64) -> Result<&'a [u8], ()> {
         if size == 0 {
             return Ok(&[]);
         }
-        let len = self.held();
-        if offset > len || size > len - offset {
+        if !is_within(self.held(), offset, size) {
             return Err(());
         }
         self.source.read_bytes_at(self.start + offset, size)

@@ -1,21 +1,14 @@
-use Rattle.std.proofs.Common.{◌*◌, length, ap, ◌∙◌}
-use Rattle.sources.proofs.Options.{some_weaker}
-use Rattle.sources.proofs.Record.{past, within, front, before}
+use Rattle.std.proofs.Common.{arith, rules, mul_comm}
+use Rattle.std.proofs.Math.Nat.{div-le_of_le-mul}
+use Rattle.std.proofs.lemmas.Grind.{common_steps}
+use Rattle.sources.specs.Held.{records_bytes}
+use Rattle.sources.proofs.Record.{cast_at}
 use Rattle.sources.proofs.pod.Records.get.Goals as goal
 
-pub returns-in-Some : goal.returns-in-Some
-returns-in-Some g c =
-    let bs = c.args.self.now.bytes.now in
-    let width = g.T.Pod.width in
-    let i = c.args.index in
-    let start = c.in-Some.start in
-    let some = g.met.T.Pod.some in
-    let at = c.in-Some.ensures.0 ∙ ap (λ n. i * n) c.size_of.ensures in
-    some_weaker c.cast.result c.cast.ensures
-    (past bs width i start some at)
-    (λ v h. (h.0 ∙ front bs width i start some at, within bs width i start some at c.in-Some.ensures.1 h.1))
+pub returns-in_err-get : goal.returns-in_err-get
+returns-in_err-get g c = grind (arith, common_steps, div-le_of_le-mul, mul_comm)
 
-pub returns-in-None : goal.returns-in-None
-returns-in-None g c =
-    before (length c.args.self.now.bytes.now) g.T.Pod.width c.args.index g.met.T.Pod.some
-    (rw (← c.size_of.ensures) c.in-None.ensures)
+pub returns : goal.returns
+returns g c =
+    cast_at g.T.Pod.stored c.cast.result (records_bytes c.args.self.now) c.in_ok-get.field-0.now g.T.Pod.width c.args.index c.in_ok-start.start g.met.T.Pod.some
+    (grind arith) (search rules) (grind (arith, common_steps)) c.cast.ensures
