@@ -11,7 +11,7 @@ use std::fmt;
 /// The number of a section that is there, and how many section headers there are.
 pub type SectionIndex = u16;
 
-/// What happened. `number` has the number of each.
+/// What happened, each with its number.
 #[derive(Clone, Copy, PartialEq, Eq, Debug)]
 pub enum FaultKind {
     HeaderTableOutside = 1,
@@ -49,7 +49,7 @@ pub enum FaultKind {
 }
 
 impl FaultKind {
-    /// The fault's number, 1 to 32.
+    /// The fault's number, 1 to 32: kinds are equal where their numbers are.
     pub fn number(self) -> u8
         ensures value { result ≡ number self }
         ensures bound { (0 < result) × (result ≤ 32) }
