@@ -1,8 +1,9 @@
 -- What is printed of a fault: its number, what happened, and where.
 use Rattle.std.specs.Prelude.{ℕ, ◌-◌, cond, List, [], ◌∷◌, ◌++◌, Some, None, codes, decimal, Option, ◌==◌, slice_index_or}
+use Rattle.std.specs.Option.{option_map, unwrap_or}
 use Rattle.faults.specs.Numbers.{number}
 use Rattle.faults.specs.declared.Place.{Place}
-use Rattle.faults.specs.declared.Place.TheVariants.{Unstated, Section, Record, Subsection, Block}
+use Rattle.faults.specs.declared.Place.TheVariants.{Section, Record, Subsection, Block}
 use Rattle.faults.specs.declared.Cause.{Cause}
 use Rattle.faults.specs.declared.Cause.TheVariants.{Short, Wide}
 use Rattle.faults.specs.declared.Fault.{Fault}
@@ -89,11 +90,10 @@ placed AttributeStringUnended s a b = Section s
 placed ForeignChain s a b = Section s
 
 -- Section 0 is no place.
-abbrev pub place : Fault → Place
-place f = cond (f.section == 0) Unstated (placed f.kind f.section f.ordinals.0 f.ordinals.1)
+abbrev pub place : Fault → Option Place
+place f = cond (f.section == 0) None (Some (placed f.kind f.section f.ordinals.0 f.ordinals.1))
 
 abbrev pub whereabouts : Place → List ℕ
-whereabouts Unstated = []
 whereabouts (Section s) = codes ", in section " ++ decimal s
 whereabouts (Record s a) = codes ", in section " ++ (decimal s ++ (codes ", record " ++ decimal a))
 whereabouts (Subsection s a) = codes ", in section " ++ (decimal s ++ (codes ", subsection " ++ decimal a))
@@ -102,4 +102,4 @@ whereabouts (Block s a b) =
 
 abbrev pub text : Fault → List ℕ
 text f =
-    codes "fault " ++ (decimal (number f.kind) ++ (codes ": " ++ (happened f.kind ++ (why f.cause ++ whereabouts (place f)))))
+    codes "fault " ++ (decimal (number f.kind) ++ (codes ": " ++ (happened f.kind ++ (why f.cause ++ unwrap_or (option_map whereabouts (place f)) []))))

@@ -133,16 +133,16 @@ impl Fault {
         }
     }
 
-    /// Where it happened, by what the ordinals count.
-    pub fn place(self) -> Place
+    /// Where it happened, by what the ordinals count, if it names a section.
+    pub fn place(self) -> Option<Place>
         ensures { result ≡ place self }
     {
         let section = self.section;
         if section == 0 {
-            return Place::Unstated;
+            return None;
         }
         let (first, second) = self.ordinals;
-        match self.kind {
+        Some(match self.kind {
             FaultKind::CrelOffsetUnreadable
             | FaultKind::CrelSymbolUnreadable
             | FaultKind::CrelTypeUnreadable
@@ -156,14 +156,13 @@ impl Fault {
             | FaultKind::BlockTagUnknown
             | FaultKind::IndexTooWide => Place::Block(section, first, second),
             _ => Place::Section(section),
-        }
+        })
     }
 }
 
 /// Where a fault is: a section, and a record, or a subsection and a block, in it.
 #[derive(Clone, Copy, PartialEq, Eq, Debug)]
 pub enum Place {
-    Unstated,
     Section(SectionIndex),
     Record(SectionIndex, u64),
     Subsection(SectionIndex, u64),
@@ -185,7 +184,6 @@ impl fmt::Display for Place {
 
     fn fmt<W: fmt::Write>(&self, f: &mut fmt::Formatter<W>) -> fmt::Result {
         match *self {
-            Place::Unstated => Ok(()),
             Place::Section(section) => write!(f, ", in section {section}"),
             Place::Record(section, record) => write!(f, ", in section {section}, record {record}"),
             Place::Subsection(section, subsection) => write!(
@@ -208,7 +206,10 @@ impl fmt::Display for Fault {
         let number = self.kind.number();
         let what = self.kind.what();
         let why = why(self.cause);
-        let place = self.place();
-        write!(f, "fault {number}: {what}{why}{place}")
+        write!(f, "fault {number}: {what}{why}")?;
+        match self.place() {
+            Some(place) => write!(f, "{place}"),
+            None => Ok(()),
+        }
     }
 }
