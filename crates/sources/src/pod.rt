@@ -138,11 +138,12 @@ pub fn read_slice_at<'a, T: Pod, R: ReadRef<'a>>(
         (λ s. (records_bytes s ≡ part (R.ReadRef.bytes source) offset (count * T.Pod.width)) × Lies (length (R.ReadRef.bytes source)) offset (count * T.Pod.width))
         (λ _. Outside (length (R.ReadRef.bytes source)) offset (count * T.Pod.width)) }
 {
+    // No source has 2^64 bytes, so a size that overflows lies outside.
     let room = source.len();
-    let size = count.checked_mul(T::size_of() as u64).ok_or(())?;
-    if size > room {
-        return Err(());
-    }
+    let size = count
+        .checked_mul(T::size_of() as u64)
+        .filter(|size| *size <= room)
+        .ok_or(())?;
     let bytes = source.read_bytes_at(offset, size)?;
     Ok(Records::new(bytes))
 }
