@@ -1,23 +1,20 @@
 -- The header table and the payloads are what they cover. Assumes nothing.
-use Rattle.std.proofs.Common.{◌≡◌, ℕ, ◌+◌, ◌-◌, ◌*◌, ◌/◌, ◌%◌, ◌<◌, ◌≤◌, Bool, true, false, cond, eqb, ltb, ◌⊎◌, List, [], length, get_or, drop, Ok, Err, Result, sym, refl, ap, ◌∙◌, inl, inr, mod-lt, mul_comm, div-lt_iff_lt-mul, add-mul, mul-zero, arith, Bor, MatchResult}
+use Rattle.std.proofs.Common.{◌≡◌, ℕ, ◌+◌, ◌-◌, ◌*◌, ◌/◌, ◌%◌, ◌<◌, ◌≤◌, true, ◌⊎◌, List, [], length, get_or, drop, Ok, Err, Result, ap, ◌∙◌, inl, inr, mod-lt, mul_comm, div-lt_iff_lt-mul, add-mul, mul-zero, arith, Bor, MatchResult}
 use native.Mathlib.Nat.{div-add-mod}
+use Rattle.std.proofs.lemmas.Bool.Decides.{nat_tests}
 use Rattle.std.proofs.lemmas.List.{get_or-take, get_or-drop}
 use Rattle.std.proofs.lemmas.Nat.{mul-le}
-use Rattle.std.proofs.lemmas.Bool.{cases_eq, eqb-true, leb-true, or_cases, or_parts, both_ways}
-use Rattle.faults.specs.Numbers.{direct, Gives}
+use Rattle.std.proofs.lemmas.Bool.{cases_eq}
+use Rattle.faults.specs.Numbers.{Gives}
 use Rattle.faults.specs.declared.Fault.{Fault}
-use Rattle.sources.specs.Source.{part, lies}
+use Rattle.sources.specs.Source.{part}
 use Rattle.sources.proofs.Source.{length_part}
 use Rattle.elf.specs.Coverage.{TableCovers, TableCovered, Covers, Covered, Uncovered}
-use Rattle.elf.specs.Object.{Object, header, payload, payload_of, and_then, bare, table_lies}
+use Rattle.elf.specs.Object.{Object, header, payload, table_lies}
 
 module _ (o : Object) (lies : table_lies o ≡ true) where
   ends : (p : ℕ) → TableCovers o p → p < length o.bytes
-  ends p c =
-      elim (or_cases (eqb (o.count * o.column.header) 0) _ lies) [
-        | inl z ↦ let no : ⊥ = omega (arith, c.0, c.1, eqb-true (o.count * o.column.header) 0 z) in absurd no
-        | inr l ↦ omega (arith, c.1, leb-true (o.table + o.count * o.column.header) (length o.bytes) l)
-      ]
+  ends p c = grind (arith, nat_tests)
 
   within : (i k : ℕ) → i < o.count → k < o.column.header → TableCovers o (o.table + i * o.column.header + k)
   within i k lt short =
@@ -27,7 +24,7 @@ module _ (o : Object) (lies : table_lies o ≡ true) where
   found : (p : ℕ) → TableCovers o p → (i : ℕ) × (k : ℕ) × (p ≡ o.table + i * o.column.header + k) × (i < o.count) × (k < o.column.header)
   found p c =
       elim (cases_eq o.column.header 0) [
-        | inl z ↦ let none = ap (λ w. o.count * w) z ∙ mul-zero o.count in let no : ⊥ = omega (arith, c.0, c.1, none) in absurd no
+        | inl z ↦ let none = ap (λ w. o.count * w) z ∙ mul-zero o.count in absurd (omega (arith, c.0, c.1, none))
         | inr n ↦
             let some : 0 < o.column.header = omega arith in
             let split = div-add-mod (p - o.table) o.column.header in
@@ -49,28 +46,9 @@ module _ (o : Object) (i : ℕ) (xs : List ℕ) where
   Shape =
       (xs ≡ []) ⊎ ((xs ≡ part o.bytes (header o i).sh_offset (header o i).sh_size) × ((header o i).sh_offset + (header o i).sh_size ≤ length o.bytes))
 
-  by_parts : (b c : Bool) → bare (header o i) ≡ b → lies (length o.bytes) (header o i).sh_offset (header o i).sh_size ≡ c → cond b (Ok []) (cond c (Ok (part o.bytes (header o i).sh_offset (header o i).sh_size)) (Err (direct 12))) ≡ Ok xs → Shape
-  by_parts true c p q e = inl (let n : [] ≡ xs = cc in sym n)
-  by_parts false true p q e =
-      let n : part o.bytes (header o i).sh_offset (header o i).sh_size ≡ xs = cc in
-      elim (or_cases (eqb (header o i).sh_size 0) _ q) [
-        | inl z ↦ absurd (both_ways (eqb (header o i).sh_size 0) (or_parts (eqb (header o i).sh_type 8) _ p).1 z)
-        | inr l ↦ inr (sym n, leb-true ((header o i).sh_offset + (header o i).sh_size) (length o.bytes) l)
-      ]
-  by_parts false false p q e = let z : ◌≡◌ {A = ℕ} 0 1 = cc in let no : ⊥ = omega arith in absurd no
-
-  by_tests : (z l t : Bool) → and_then (cond z (Err (direct 5)) (cond l (cond t (Ok (header o i)) (Err (direct 1))) (Err (direct 5)))) (payload_of o.bytes) ≡ Ok xs → Shape
-  by_tests true l t e = let z : ◌≡◌ {A = ℕ} 0 1 = cc in let no : ⊥ = omega arith in absurd no
-  by_tests false false t e = let z : ◌≡◌ {A = ℕ} 0 1 = cc in let no : ⊥ = omega arith in absurd no
-  by_tests false true false e = let z : ◌≡◌ {A = ℕ} 0 1 = cc in let no : ⊥ = omega arith in absurd no
-  by_tests false true true e = by_parts _ _ refl refl e
-
   module _ (e : payload o i ≡ Ok xs) where
-    offset : ℕ
-    offset = (header o i).sh_offset
-
     shape : Shape
-    shape = by_tests (eqb i 0) (ltb i o.count) (table_lies o) e
+    shape = grind (arith, nat_tests)
 
     among : (p : ℕ) → Covers o i p → ((header o i).sh_offset ≤ p) × (p < (header o i).sh_offset + length xs)
     among p h = rw e at h
@@ -78,7 +56,7 @@ module _ (o : Object) (i : ℕ) (xs : List ℕ) where
     same : (k : ℕ) → k < length xs → get_or xs k 0 ≡ get_or o.bytes ((header o i).sh_offset + k) 0
     same k h =
         elim shape [
-          | inl z ↦ let none : length xs ≡ 0 = ap length z in let no : ⊥ = omega arith in absurd no
+          | inl z ↦ let none : length xs ≡ 0 = ap length z in absurd (omega arith)
           | inr w ↦
               let long = ap length w.0 ∙ length_part o.bytes (header o i).sh_offset (header o i).sh_size in
               ap (λ ys. get_or ys k 0) w.0 ∙ get_or-take (header o i).sh_size (drop (header o i).sh_offset o.bytes) k 0 (omega (arith, long)) ∙ get_or-drop (header o i).sh_offset o.bytes k 0
@@ -87,10 +65,8 @@ module _ (o : Object) (i : ℕ) (xs : List ℕ) where
     there : (p : ℕ) → Covers o i p → p < length o.bytes
     there p c =
         let a = among p c in
-        elim shape [
-          | inl z ↦ let none : length xs ≡ 0 = ap length z in let no : ⊥ = omega (arith, a.0, a.1) in absurd no
-          | inr w ↦ omega (arith, a.1, w.1, ap length w.0 ∙ length_part o.bytes (header o i).sh_offset (header o i).sh_size)
-        ]
+        let s = shape in
+        grind (arith, length_part)
 
     is_covered : Covered o i xs
     is_covered =

@@ -3,7 +3,7 @@ ghost use Rattle.std.specs.Prelude.{IfOk};
 ghost use Rattle.faults.specs.Numbers.{Gives};
 ghost use Rattle.elf.specs.Coverage.{TableCovered};
 ghost use Rattle.elf.specs.Object.{opening};
-ghost use Rattle.elf.specs.Opened.{meaning, Looks, Sound};
+ghost use Rattle.elf.specs.Opened.{meaning, stated, Looks, Sound};
 
 use super::section::{Sections, data, is_relocation};
 use classes::{Class, Header};
@@ -18,7 +18,16 @@ pub const MAX_SOURCE: u64 = 4294967295;
 /// The most headers that an object has.
 pub const MAX_HEADERS: u64 = 65535;
 
-/// An opened object.
+/// A table of section headers as somebody tells it: its object's class and byte order, where it starts, and how many headers it has.
+#[derive(Clone, Copy, PartialEq, Eq, Debug)]
+pub struct HeaderTable<C, E> {
+    pub class: C,
+    pub endian: E,
+    pub start: u64,
+    pub count: u64,
+}
+
+/// An opened object, whose headers a `SectionIndex` counts.
 #[derive(Clone, Copy)]
 pub struct ElfFile<R, C, E> {
     source: R,
@@ -29,50 +38,44 @@ pub struct ElfFile<R, C, E> {
 }
 
 impl<'a, R: ReadRef<'a>, C: Class, E: Endian> ElfFile<R, C, E> {
-    // The header at an index of the table, if the table lies in the source.
-    fn look(&self, index: usize) -> Result<Option<Header>, ()>
+    // The header at an index of the table, none past the last. Refused if the table does not lie in the source.
+    fn look(&self, index: usize) -> Result<Option<Header>, Fault>
         ensures { Looks (meaning R.ReadRef.bytes C.Class.column E.Endian.big self.now) index result }
     {
-        let count = self.count as u64;
-        let headers = read_slice_at::<C::SectionHeader, R>(self.source, self.table, count)?;
-        match headers.get(index) {
-            Some(stored) => Ok(Some(Header::of(&stored, self.endian))),
-            None => Ok(None),
-        }
+        let count = u64::from(self.count);
+        let headers = read_slice_at::<C::SectionHeader, R>(self.source, self.table, count).map_err(
+            |()| Fault::direct(FaultKind::HeaderTableOutside),
+        )?;
+        let endian = self.endian;
+        Ok(headers.get(index).map(|stored| Header::of(&stored, endian)))
     }
 
-    /// Opens the object whose table of `count` section headers starts at `table`.
-    pub fn open(
-        source: R,
-        class: C,
-        endian: E,
-        table: u64,
-        count: u64,
-    ) -> Result<ElfFile<R, C, E>, Fault>
+    /// Opens the object that has these section headers.
+    #[tactic(auto, using(crate::proofs::Covering::table_covered))]
+    pub fn open(source: R, table: HeaderTable<C, E>) -> Result<ElfFile<R, C, E>, Fault>
         ensures result { Gives (meaning R.ReadRef.bytes C.Class.column E.Endian.big) result
-            (opening (record { bytes = R.ReadRef.bytes source; column = C.Class.column; big = E.Endian.big endian; table = table; count = count })) }
+            (opening (stated (R.ReadRef.bytes source) C.Class.column E.Endian.big table)) }
         ensures sound { IfOk result (λ f. Sound (meaning R.ReadRef.bytes C.Class.column E.Endian.big f)) }
         ensures table { IfOk result (λ f. TableCovered (meaning R.ReadRef.bytes C.Class.column E.Endian.big f)) }
     {
         if source.len() > MAX_SOURCE {
             return Err(Fault::direct(FaultKind::SourceTooLong));
         }
-        if count > MAX_HEADERS {
+        if table.count > MAX_HEADERS {
             return Err(Fault::direct(FaultKind::TooManyHeaders));
         }
         let file = ElfFile {
             source,
-            class,
-            endian,
-            table,
-            count: count as SectionIndex,
+            class: table.class,
+            endian: table.endian,
+            table: table.start,
+            count: table.count as SectionIndex,
         };
-        match file.look(0) {
-            Err(()) => Err(Fault::direct(FaultKind::HeaderTableOutside)),
-            Ok(Some(first)) if is_relocation(first.sh_type) => {
+        match file.look(0)? {
+            Some(first) if is_relocation(first.sh_type) => {
                 Err(Fault::direct(FaultKind::FirstHeaderRelocates))
             }
-            Ok(_) => Ok(file),
+            _ => Ok(file),
         }
     }
 }
@@ -85,13 +88,11 @@ impl<'a, R: ReadRef<'a>, C: Class, E: Endian> Sections<'a> for ElfFile<R, C, E> 
     }
 
     fn header(&self, index: u32) -> Result<Header, Fault> {
-        if index >= self.count as u32 {
+        if index >= u32::from(self.count) {
             return Err(Fault::direct(FaultKind::NoSuchSection));
         }
-        match self.look(index as usize) {
-            Ok(Some(header)) => Ok(header),
-            _ => Err(Fault::direct(FaultKind::HeaderTableOutside)),
-        }
+        self.look(index as usize)?
+            .ok_or(Fault::direct(FaultKind::HeaderTableOutside))
     }
 
     fn section(&self, index: u32) -> Result<Header, Fault> {
@@ -101,6 +102,7 @@ impl<'a, R: ReadRef<'a>, C: Class, E: Endian> Sections<'a> for ElfFile<R, C, E> 
         self.header(index)
     }
 
+    #[tactic(auto, using(crate::proofs::Covering::covered))]
     fn payload(&self, index: u32) -> Result<&'a [u8], Fault> {
         let header = self.section(index)?;
         data(&header, self.source)

@@ -30,10 +30,9 @@ pub fn data<'a, R: ReadRef<'a>>(header: &Header, source: R) -> Result<&'a [u8], 
     if header.sh_type == SHT_NOBITS {
         return Ok(&[]);
     }
-    match source.read_bytes_at(header.sh_offset, header.sh_size) {
-        Ok(payload) => Ok(payload),
-        Err(()) => Err(Fault::direct(FaultKind::PayloadOutside)),
-    }
+    source
+        .read_bytes_at(header.sh_offset, header.sh_size)
+        .map_err(|()| Fault::direct(FaultKind::PayloadOutside))
 }
 
 /// The section headers and payloads of an object.

@@ -1,8 +1,10 @@
-use Rattle.std.proofs.Common.{◌≡◌, ap, ◌∙◌}
-use Rattle.classes.specs.Column.{Column}
+use Rattle.std.proofs.Common.{◌≡◌, ◌*◌, length, ap, ◌∙◌, rules}
+use Rattle.sources.specs.Source.{part, Lies}
+use Rattle.std.specs.Option.{option_map}
+use Rattle.classes.specs.Column.{Column, decoded}
 use Rattle.elf.specs.Object.{Object}
 use Rattle.elf.specs.Opened.{meaning}
-use Rattle.elf.proofs.Table.{looks_past, looks_at}
+use Rattle.elf.proofs.Table.{lies-true, looked}
 use Rattle.elf.proofs.file.ElfFile.look.Given as given
 use Rattle.elf.proofs.file.ElfFile.look.Goals as goal
 
@@ -10,17 +12,13 @@ use Rattle.elf.proofs.file.ElfFile.look.Goals as goal
 wide : (g : given.Over) → g.C.SectionHeader.Pod.width ≡ g.C.Class.column.header
 wide g = g.met.C.SectionHeader.SectionHeader.size ∙ ap (λ (c : Column). c.header) g.met.C.Class.header
 
-pub returns-in-Some : goal.returns-in-Some
-returns-in-Some g c =
+pub returns : goal.returns
+returns g c =
     let o : Object = meaning g.R.ReadRef.bytes g.C.Class.column g.E.Endian.big c.args.self.now in
-    let read = c.in_ok-headers.ensures in
-    let got = c.in-Some.ensures in
-    looks_at o g.C.SectionHeader.Pod.width (wide g) g.met.C.SectionHeader.Pod.some c.in_ok-headers.headers.bytes.now read.0 read.1
-    c.args.index c.of.result (g.C.SectionHeader.Pod.stored c.in-Some.stored) g.C.SectionHeader.SectionHeader.column g.met.C.Class.header got.0 got.1 c.of.ensures
-
-pub returns-in-None : goal.returns-in-None
-returns-in-None g c =
-    let o : Object = meaning g.R.ReadRef.bytes g.C.Class.column g.E.Endian.big c.args.self.now in
-    let read = c.in_ok-headers.ensures in
-    looks_past o g.C.SectionHeader.Pod.width (wide g) g.met.C.SectionHeader.Pod.some c.in_ok-headers.headers.bytes.now read.0 read.1
-    c.args.index c.in-None.ensures
+    let width = g.C.SectionHeader.Pod.width in
+    let held = c.in_ok-headers.headers.bytes.now in
+    let read : (held ≡ part o.bytes o.table (o.count * width)) × Lies (length o.bytes) o.table (o.count * width) = search rules in
+    let said : c.map.result ≡ option_map (λ v. decoded g.C.SectionHeader.SectionHeader.column o.big (g.C.SectionHeader.Pod.stored v)) c.get.result = search rules in (
+      lies-true o width (wide g) g.met.C.SectionHeader.Pod.some read.1,
+      said ∙ looked o width (wide g) g.met.C.SectionHeader.Pod.some held read.0 read.1 c.args.index g.C.SectionHeader.SectionHeader.column g.met.C.Class.header g.C.SectionHeader.Pod.stored c.get.result c.get.ensures,
+    )
