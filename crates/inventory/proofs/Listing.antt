@@ -1,22 +1,16 @@
 -- One row more of an inventory. Assumes nothing.
-use Rattle.std.proofs.Common.{◌≡◌, ℕ, ◌+◌, Bool, true, false, cond, ltb, List, [], ◌∷◌, ◌++◌, map, Ok, Err, sym, refl, ap, ◌∙◌, arith}
+use Rattle.std.proofs.Common.{◌≡◌, ℕ, ◌+◌, true, List, [], ◌∷◌, ◌++◌, map, Ok, sym, ap, ◌∙◌, arith}
 use Rattle.std.specs.List.{range_with_len}
+use Rattle.std.proofs.lemmas.Bool.Decides.{nat_tests}
 use Rattle.std.proofs.lemmas.List.FromFn.{map-range_with_len_more}
 use Rattle.std.proofs.lemmas.List.{map_push}
-use Rattle.faults.specs.Numbers.{FaultNumbers, direct}
-use Rattle.classes.specs.declared.Header.{Header}
-use Rattle.elf.specs.Object.{Object, header, and_then, table_lies}
+use Rattle.elf.specs.Object.{Object, table_lies}
 use Rattle.inventory.specs.declared.Row.{Row}
 use Rattle.inventory.specs.Rows.{Listed, row, row_at, seen}
 
-by_tests : (l t : Bool) (h : Header) (x y : Listed) (a b : FaultNumbers) → and_then (cond l (cond t (Ok h) (Err a)) (Err b)) (λ _. Ok x) ≡ Ok y → (y ≡ x) × (t ≡ true)
-by_tests true true h x y a b e = (cc, refl)
-by_tests true false h x y a b e = let z : ◌≡◌ {A = ℕ} 0 1 = cc in let no : ⊥ = omega arith in absurd no
-by_tests false t h x y a b e = let z : ◌≡◌ {A = ℕ} 0 1 = cc in let no : ⊥ = omega arith in absurd no
-
 -- a row that was made is the one at its index, and the table lies in the source
 pub made_is : (o : Object) (i : ℕ) (l : Listed) → row_at o i ≡ Ok l → (l ≡ row o i) × (table_lies o ≡ true)
-made_is o i l e = by_tests (ltb i o.count) (table_lies o) (header o i) (row o i) l (direct 1) (direct 5) e
+made_is o i l e = grind (arith, nat_tests)
 
 pub one_more : (o : Object) (i : ℕ) (rs ys : List Row) (r : Row) → map seen rs ≡ map (row o) (range_with_len 0 i) → ys ≡ rs ++ r ∷ [] → seen r ≡ row o i → map seen ys ≡ map (row o) (range_with_len 0 (i + 1))
 one_more o i rs ys r before e is =

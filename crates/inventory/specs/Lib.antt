@@ -1,2 +1,3 @@
+pub mod ClassWords
 pub mod Rows
 pub mod Summary

@@ -8,6 +8,8 @@ use Rattle.faults.specs.Numbers.{FaultNumbers, numbers, direct}
 use Rattle.classes.specs.Column.{Column, class32, class64}
 use Rattle.classes.specs.declared.Header.{Header}
 use Rattle.elf.specs.Object.{Object, header, header_at, and_then, table_lies, payload, opening}
+use Rattle.elf.specs.Opened.{stated}
+use Rattle.elf.specs.declared.file.HeaderTable.{HeaderTable}
 use Rattle.inventory.specs.declared.ClassName.{ClassName}
 use Rattle.inventory.specs.declared.ClassName.TheVariants.{Class32, Class64}
 use Rattle.inventory.specs.declared.Failure.{Failure}
@@ -71,7 +73,6 @@ abbrev pub column_of : ClassName → Column
 column_of Class32 = class32
 column_of Class64 = class64
 
--- The object that is asked for by its bytes, the names of its class and order, and the place of its table.
-abbrev pub asked : List ℕ → ClassName → Endianness → ℕ → ℕ → Object
-asked bytes class order table count =
-    record { bytes = bytes; column = column_of class; big = is_big order; table = table; count = count }
+-- The object that is asked for by its bytes, and by section headers that are told with the names of its class and order.
+abbrev pub asked : List ℕ → HeaderTable ClassName Endianness → Object
+asked bytes table = stated bytes (column_of table.class) is_big table

@@ -1,20 +1,25 @@
 //! The inventory of an object: a row for each section header, with the state of its payload.
 #![tactic(auto)]
 
-ghost use Rattle.std.specs.Prelude.{◌≡◌, map, MatchResult};
+ghost use Rattle.std.specs.Prelude.{◌≡◌, map, Some, MatchResult};
 ghost use Rattle.faults.specs.Numbers.{Gives};
+ghost use Rattle.endian.specs.Chosen.{is_big};
+ghost use Rattle.elf.specs.Opened.{stated};
+ghost use Rattle.inventory.specs.ClassWords.{class_word, NoClass};
 ghost use Rattle.inventory.specs.Rows.{rows, row_at, seen, state, state_at, Fails, Takes, column_of, asked};
-ghost use Rattle.inventory.specs.Summary.{Sums};
+ghost use Rattle.inventory.specs.Summary.{Sums, is_readable, is_damaged};
 ghost use Rattle.inventory.specs.declared.Failure.TheVariants.{Memory, Refused};
 
 use class32::Class32;
 use class64::Class64;
 use classes::{Class, Header};
-use elf::file::ElfFile;
+use elf::file::{ElfFile, HeaderTable};
 use elf::section::Sections;
-use endian::{Endian, Endianness};
+use endian::Endianness;
 use faults::{Fault, SectionIndex};
 use std::alloc::{AllocFailed as Unplaced, Global};
+use std::fmt;
+use std::str::FromStr;
 
 /// What a section's payload came to.
 #[derive(Clone, Copy, PartialEq, Eq, Debug)]
@@ -24,6 +29,20 @@ pub enum State {
     /// It was read, and has so many bytes.
     Read(u64),
     Damaged(Fault),
+}
+
+impl State {
+    fn is_readable(&self) -> bool
+        ensures { result ≡ is_readable self.now }
+    {
+        matches!(self, State::Read(_))
+    }
+
+    fn is_damaged(&self) -> bool
+        ensures { result ≡ is_damaged self.now }
+    {
+        matches!(self, State::Damaged(_))
+    }
 }
 
 /// A section header, and the state of its payload.
@@ -86,6 +105,7 @@ impl Row {
 }
 
 /// A row for each header, in the order of the table.
+#[tactic(auto, using(crate::proofs::Listing::made_is, crate::proofs::Listing::one_more))]
 pub fn rows<'a, O: Sections<'a>>(object: &O, heap: Global) -> Result<Vec<Row>, Failure>
     ensures { MatchResult result
         (λ v. map seen v.items ≡ rows (O.Sections.object object.now))
@@ -93,8 +113,7 @@ pub fn rows<'a, O: Sections<'a>>(object: &O, heap: Global) -> Result<Vec<Row>, F
 {
     let mut rows = Vec::new(heap);
     for index in 0..object.count() {
-        let row = Row::of(object, index)?;
-        rows.push(row)?;
+        rows.push(Row::of(object, index)?)?;
     }
     Ok(rows)
 }
@@ -118,35 +137,64 @@ impl ClassName {
     }
 }
 
-// The inventory of an object of one class.
-fn list<C: Class, E: Endian>(
-    bytes: &[u8],
-    class: C,
-    endian: E,
-    table: u64,
-    count: u64,
-    heap: Global,
-) -> Result<Vec<Row>, Failure>
-    ensures { Takes (record { bytes = bytes.now; column = C.Class.column; big = E.Endian.big endian; table = table; count = count }) result }
-{
-    let object = ElfFile::open(bytes, class, endian, table, count)?;
-    rows(&object, heap)
+impl fmt::Display for ClassName {
+    ghost output = { λ class. Some (class_word class) };
+
+    fn fmt<W: fmt::Write>(&self, f: &mut fmt::Formatter<W>) -> fmt::Result {
+        match self {
+            ClassName::Class32 => write!(f, "32"),
+            ClassName::Class64 => write!(f, "64"),
+        }
+    }
 }
 
-/// The inventory of the object in `bytes` whose table of `count` headers starts at `table`.
-pub fn take(
+/// A word names no class.
+#[derive(Clone, Copy, PartialEq, Eq, Debug)]
+pub struct UnknownClass;
+
+impl FromStr for ClassName {
+    type Err = UnknownClass;
+
+    ghost from_str_gives = { λ word r. MatchResult r (λ class. word ≡ class_word class) (λ _. NoClass word) };
+
+    fn from_str(word: &str) -> Result<ClassName, UnknownClass> {
+        match word {
+            "32" => Ok(ClassName::Class32),
+            "64" => Ok(ClassName::Class64),
+            _ => Err(UnknownClass),
+        }
+    }
+}
+
+// The inventory of an object of one class, whatever class the table tells.
+fn list<C: Class>(
     bytes: &[u8],
-    class: ClassName,
-    endian: Endianness,
-    table: u64,
-    count: u64,
+    class: C,
+    table: HeaderTable<ClassName, Endianness>,
     heap: Global,
 ) -> Result<Vec<Row>, Failure>
-    ensures { Takes (asked bytes.now class endian table count) result }
+    ensures { Takes (stated bytes.now C.Class.column is_big table) result }
 {
-    match class {
-        ClassName::Class32 => list(bytes, Class32, endian, table, count, heap),
-        ClassName::Class64 => list(bytes, Class64, endian, table, count, heap),
+    let table = HeaderTable {
+        class,
+        endian: table.endian,
+        start: table.start,
+        count: table.count,
+    };
+    rows(&ElfFile::open(bytes, table)?, heap)
+}
+
+/// The inventory of the object in `bytes` that has these section headers.
+pub fn take(
+    bytes: &[u8],
+    table: HeaderTable<ClassName, Endianness>,
+    heap: Global,
+) -> Result<Vec<Row>, Failure>
+    ensures { Takes (asked bytes.now table) result }
+{
+    match table.class {
+        ClassName::Class32 => list(bytes, Class32, table, heap),
+        ClassName::Class64 => list(bytes, Class64, table, heap),
     }
 }
 
@@ -162,15 +210,8 @@ impl Summary {
     pub fn of(rows: &[Row]) -> Summary
         ensures { Sums rows.now result }
     {
-        let mut readable = 0usize;
-        let mut damaged = 0usize;
-        for row in rows {
-            match row.payload {
-                State::Reserved => {}
-                State::Read(_) => readable += 1,
-                State::Damaged(_) => damaged += 1,
-            }
-        }
+        let readable = rows.iter().filter(|row| row.payload.is_readable()).count();
+        let damaged = rows.iter().filter(|row| row.payload.is_damaged()).count();
         Summary {
             sections: readable + damaged,
             readable,

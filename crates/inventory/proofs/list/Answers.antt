@@ -1,8 +1,8 @@
-use Rattle.elf.specs.Object.{Object}
+use Rattle.endian.specs.Chosen.{is_big}
+use Rattle.elf.specs.Opened.{stated}
 use Rattle.inventory.proofs.Taking.{takes}
 use Rattle.inventory.proofs.list.Goals as goal
 
 pub returns : goal.returns
 returns g c =
-    let o : Object = record { bytes = c.args.bytes.now; column = g.C.Class.column; big = g.E.Endian.big c.args.endian; table = c.args.table; count = c.args.count } in
-    takes o _ c.in_ok-object.ensures.result c.rows.result c.rows.ensures
+    takes (stated c.args.bytes.now g.C.Class.column is_big c.args.table) _ c.in_ok-open.ensures.result c.rows.result c.rows.ensures
