@@ -3,10 +3,11 @@ use Rattle.std.specs.Prelude.{ℕ, List, codes, ◌≢◌}
 use Rattle.inventory.specs.declared.ClassName.{ClassName}
 use Rattle.inventory.specs.declared.ClassName.TheVariants.{Class32, Class64}
 
+-- The word that names a class.
 abbrev pub class_word : ClassName → List ℕ
 class_word Class32 = codes "32"
 class_word Class64 = codes "64"
 
--- Words that name no class.
+-- A word that names none.
 abbrev pub NoClass : List ℕ → Type 0
 NoClass word = (c : ClassName) → word ≢ class_word c

@@ -138,24 +138,24 @@ impl ClassName {
 }
 
 impl fmt::Display for ClassName {
-    ghost output = { λ class. Some (class_word class) };
+    ghost output = { λ c. Some (class_word c) };
 
     fn fmt<W: fmt::Write>(&self, f: &mut fmt::Formatter<W>) -> fmt::Result {
-        match self {
-            ClassName::Class32 => write!(f, "32"),
-            ClassName::Class64 => write!(f, "64"),
-        }
+        f.write_str(match self {
+            ClassName::Class32 => "32",
+            ClassName::Class64 => "64",
+        })
     }
 }
 
-/// A word names no class.
+/// A word that names no class.
 #[derive(Clone, Copy, PartialEq, Eq, Debug)]
 pub struct UnknownClass;
 
 impl FromStr for ClassName {
     type Err = UnknownClass;
 
-    ghost from_str_gives = { λ word r. MatchResult r (λ class. word ≡ class_word class) (λ _. NoClass word) };
+    ghost from_str_gives = { λ word r. MatchResult r (λ c. word ≡ class_word c) (λ _. NoClass word) };
 
     fn from_str(word: &str) -> Result<ClassName, UnknownClass> {
         match word {

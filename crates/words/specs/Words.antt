@@ -2,29 +2,14 @@
 use Rattle.std.specs.Prelude.{◌≡◌, ℕ, ◌^◌, ◌<◌, ◌⊎◌, List, [], ◌++◌, length, drop, Some, None, Ok, Err, codes, decimal, Option, Result, MatchOption, ◌≢◌, slice_index_or}
 use Rattle.std.specs.Borrow.{Bor}
 use Rattle.std.specs.Str.Parse.{IsNumeral, digits_value, without_leading_plus}
+use Rattle.endian.specs.Chosen.{order_word, NoOrder}
 use Rattle.endian.specs.declared.Endianness.{Endianness}
-use Rattle.endian.specs.declared.Endianness.TheVariants.{Little, Big}
+use Rattle.inventory.specs.ClassWords.{class_word, NoClass}
 use Rattle.inventory.specs.declared.ClassName.{ClassName}
-use Rattle.inventory.specs.declared.ClassName.TheVariants.{Class32, Class64}
 use Rattle.words.specs.declared.Command.{Command}
 use Rattle.words.specs.declared.Command.TheVariants.{Help, Inventory}
 use Rattle.words.specs.declared.Usage.{Usage}
 use Rattle.words.specs.declared.Usage.TheVariants.{NoCommand, UnknownCommand, Arguments, Class, Order, Table, Count}
-
-abbrev pub class_word : ClassName → List ℕ
-class_word Class32 = codes "32"
-class_word Class64 = codes "64"
-
-abbrev pub order_word : Endianness → List ℕ
-order_word Little = codes "little"
-order_word Big = codes "big"
-
--- Words that name no class, and no order.
-abbrev pub NoClass : List ℕ → Type 0
-NoClass word = (c : ClassName) → word ≢ class_word c
-
-abbrev pub NoOrder : List ℕ → Type 0
-NoOrder word = (o : Endianness) → word ≢ order_word o
 
 -- The number that digits of a base say, if it has at most 64 bits. A plus sign may stand before them.
 abbrev pub Tells : ℕ → List ℕ → Option ℕ → Type 0
@@ -41,7 +26,7 @@ pub record Says (word : List ℕ) (r : Option ℕ) : Type 0 where
 abbrev pub Asked : List ℕ → List ℕ → List ℕ → List ℕ → List ℕ → Result Command Usage → Type 0
 Asked file class order table count (Ok Help) = ⊥
 Asked file class order table count (Ok (Inventory q)) =
-    (q.file.now ≡ file) × (class ≡ class_word q.class) × (order ≡ order_word q.order) × Says table (Some q.table) × Says count (Some q.count)
+    (q.file.now ≡ file) × (class ≡ class_word q.table.class) × (order ≡ order_word q.table.endian) × Says table (Some q.table.start) × Says count (Some q.table.count)
 Asked file class order table count (Err NoCommand) = ⊥
 Asked file class order table count (Err (UnknownCommand word)) = ⊥
 Asked file class order table count (Err (Arguments n)) = ⊥

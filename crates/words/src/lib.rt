@@ -1,9 +1,10 @@
 //! The words that the program is called with.
 #![tactic(auto)]
 
-ghost use Rattle.std.specs.Prelude.{◌≡◌, map, Some, string_bytes, MatchOption};
-ghost use Rattle.words.specs.Words.{class_word, order_word, NoClass, NoOrder, Says, Asked, Parsed, Inventoried, told};
+ghost use Rattle.std.specs.Prelude.{map, Some, string_bytes};
+ghost use Rattle.words.specs.Words.{Says, Parsed, Inventoried, told};
 
+use elf::file::HeaderTable;
 use endian::Endianness;
 use inventory::ClassName;
 use std::fmt;
@@ -19,10 +20,7 @@ pub enum Command<'w> {
 #[derive(Clone, Copy)]
 pub struct Request<'w> {
     pub file: &'w str,
-    pub class: ClassName,
-    pub order: Endianness,
-    pub table: u64,
-    pub count: u64,
+    pub table: HeaderTable<ClassName, Endianness>,
 }
 
 /// What is wrong with the words.
@@ -37,33 +35,13 @@ pub enum Usage<'w> {
     Count(&'w str),
 }
 
-fn class_named(word: &str) -> Option<ClassName>
-    ensures { MatchOption result (NoClass word.now) (λ c. word.now ≡ class_word c) }
-{
-    match word {
-        "32" => Some(ClassName::Class32),
-        "64" => Some(ClassName::Class64),
-        _ => None,
-    }
-}
-
-fn order_named(word: &str) -> Option<Endianness>
-    ensures { MatchOption result (NoOrder word.now) (λ o. word.now ≡ order_word o) }
-{
-    match word {
-        "little" => Some(Endianness::Little),
-        "big" => Some(Endianness::Big),
-        _ => None,
-    }
-}
-
 // A number in decimal, or in hexadecimal after 0x.
 fn number(word: &str) -> Option<u64>
     ensures { Says word.now result }
 {
     match word.strip_prefix("0x") {
         Some(digits) => u64::from_str_radix(digits, 16).ok(),
-        None => word.parse::<u64>().ok(),
+        None => word.parse().ok(),
     }
 }
 
@@ -89,43 +67,14 @@ impl<'w> Command<'w> {
         let [file, class, order, table, count] = words else {
             return Err(Usage::Arguments(words.len()));
         };
-        Command::parse_object(
-            file.as_str(),
-            class.as_str(),
-            order.as_str(),
-            table.as_str(),
-            count.as_str(),
-        )
-    }
-
-    // Reads the five words of an object.
-    fn parse_object(
-        file: &'w str,
-        class: &'w str,
-        order: &'w str,
-        table: &'w str,
-        count: &'w str,
-    ) -> Result<Command<'w>, Usage<'w>>
-        ensures { Asked file.now class.now order.now table.now count.now result }
-    {
-        let Some(class) = class_named(class) else {
-            return Err(Usage::Class(class));
-        };
-        let Some(order) = order_named(order) else {
-            return Err(Usage::Order(order));
-        };
-        let Some(table) = number(table) else {
-            return Err(Usage::Table(table));
-        };
-        let Some(count) = number(count) else {
-            return Err(Usage::Count(count));
-        };
         Ok(Command::Inventory(Request {
             file,
-            class,
-            order,
-            table,
-            count,
+            table: HeaderTable {
+                class: class.parse().map_err(|_| Usage::Class(class))?,
+                endian: order.parse().map_err(|_| Usage::Order(order))?,
+                start: number(table).ok_or(Usage::Table(table))?,
+                count: number(count).ok_or(Usage::Count(count))?,
+            },
         }))
     }
 }
