@@ -14,7 +14,7 @@ use Rattle.commands.specs.declared.Problem.TheVariants.{Words, File, Refused, Me
 
 -- The object that is asked for, in the bytes of its file.
 abbrev pub requested : List ℕ → Request → Object
-requested bytes q = asked bytes q.class q.order q.table q.count
+requested bytes q = asked bytes q.table
 
 -- What is said of a file's bytes: a text where the object opens, else the refusal of its opening. There may be no memory for a text.
 abbrev pub Reported : List ℕ → Request → Result (String Global) Problem → Type 0
@@ -36,7 +36,7 @@ wrong (Err Memory) = None
 -- What words can say: the numbers of an object have at most 64 bits.
 abbrev pub Sayable : Command → Type 0
 Sayable Help = Unit {0}
-Sayable (Inventory q) = (q.table < 2 ^ 64) × (q.count < 2 ^ 64)
+Sayable (Inventory q) = (q.table.start < 2 ^ 64) × (q.table.count < 2 ^ 64)
 
 -- Words are found wrong exactly where they are.
 abbrev pub Answered : List (List ℕ) → Result (String Global) Problem → Type 0

@@ -2,11 +2,11 @@
 #![tactic(auto)]
 
 ghost use Rattle.std.specs.Prelude.{◌≡◌, true, map, is_err, None, string_bytes};
-ghost use Rattle.inventory.specs.Rows.{Takes, asked};
 ghost use Rattle.commands.specs.Answered.{Reported, wrong, Answered};
 
+use elf::file::HeaderTable;
 use faults::Fault;
-use inventory::{Failure, Row, take};
+use inventory::{Failure, take};
 use report::Report;
 use std::alloc::Global;
 use std::{env, fmt, fs, io};
@@ -58,11 +58,10 @@ impl fmt::Display for Problem<'_> {
             Problem::File(file, error) => write!(f, "{file}: {error}"),
             Problem::Refused(request, len, fault) => {
                 let file = request.file;
-                let table = request.table;
-                let count = request.count;
+                let HeaderTable { start, count, .. } = request.table;
                 write!(
                     f,
-                    "{file}: {fault} (the file has {len} bytes; TABLE is {table}, COUNT is {count})"
+                    "{file}: {fault} (the file has {len} bytes; TABLE is {start}, COUNT is {count})"
                 )
             }
             Problem::Memory => write!(f, "there is not enough memory"),
@@ -74,23 +73,18 @@ impl fmt::Display for Problem<'_> {
 fn answer<'w>(rt: &HostRuntime, words: &'w [String]) -> Result<String, Problem<'w>>
     ensures { Answered (map string_bytes words.now) result }
 {
-    match Command::parse(words) {
-        Ok(Command::Help) => match String::from_str(rt.alloc(), HELP) {
-            Ok(text) => Ok(text),
-            Err(_) => Err(Problem::Memory),
-        },
-        Ok(Command::Inventory(request)) => inventory_of(rt, request),
-        Err(usage) => Err(Problem::Words(usage)),
+    match Command::parse(words).map_err(Problem::Words)? {
+        Command::Help => String::from_str(rt.alloc(), HELP).map_err(|_| Problem::Memory),
+        Command::Inventory(request) => inventory_of(rt, request),
     }
 }
 
 fn inventory_of<'w>(rt: &HostRuntime, request: Request<'w>) -> Result<String, Problem<'w>>
     ensures { wrong result ≡ None }
 {
-    match fs::read(rt, request.file) {
-        Ok(bytes) => reported(bytes.as_slice(), request, rt.alloc()),
-        Err(error) => Err(Problem::File(request.file, error)),
-    }
+    let file = request.file;
+    let bytes = fs::read(rt, file).map_err(|error| Problem::File(file, error))?;
+    reported(&bytes, request, rt.alloc())
 }
 
 // The text on the object that is asked for, out of the bytes of its file.
@@ -98,7 +92,7 @@ fn reported<'w>(bytes: &[u8], request: Request<'w>, heap: Global) -> Result<Stri
     ensures { Reported bytes.now request.entry result }
 {
     let len = bytes.len();
-    let rows = match listed(bytes, request, heap) {
+    let rows = match take(bytes, request.table, heap) {
         Ok(rows) => rows,
         Err(Failure::Refused(fault)) => return Err(Problem::Refused(request, len, fault)),
         Err(Failure::Memory) => return Err(Problem::Memory),
@@ -106,26 +100,9 @@ fn reported<'w>(bytes: &[u8], request: Request<'w>, heap: Global) -> Result<Stri
     let report = Report {
         request,
         len,
-        rows: rows.as_slice(),
+        rows: &rows,
     };
-    match format!(in heap; "{report}") {
-        Ok(text) => Ok(text),
-        Err(_) => Err(Problem::Memory),
-    }
-}
-
-// The rows of the object that is asked for, out of the bytes of its file.
-fn listed(bytes: &[u8], request: Request<'_>, heap: Global) -> Result<Vec<Row>, Failure>
-    ensures { Takes (asked bytes.now request.entry.class request.entry.order request.entry.table request.entry.count) result }
-{
-    take(
-        bytes,
-        request.class,
-        request.order,
-        request.table,
-        request.count,
-        heap,
-    )
+    format!(in heap; "{report}").map_err(|_| Problem::Memory)
 }
 
 /// The program failed, and said why.
@@ -155,11 +132,11 @@ pub fn run(rt: &HostRuntime) -> Result<(), Failed> {
             format_args!("the arguments are not readable as UTF-8 text: {error}"),
         ),
     };
-    match answer(rt, words.as_slice()) {
-        Ok(text) => match rt.print(text) {
-            Ok(()) => Ok(()),
-            Err(error) => complain(rt, format_args!("standard output: {error}")),
-        },
+    match answer(rt, &words) {
+        Ok(text) => rt.print(text).or_else(|error| complain(
+            rt,
+            format_args!("standard output: {error}"),
+        )),
         Err(problem) => complain(rt, problem),
     }
 }

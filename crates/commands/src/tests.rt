@@ -2,6 +2,7 @@
 use super::report::Report;
 use super::{HELP, Problem, answer};
 use classes::Header;
+use elf::file::HeaderTable;
 use endian::Endianness;
 use faults::{Fault, FaultKind};
 use inventory::{ClassName, Row, State};
@@ -10,24 +11,23 @@ use std::test::Fail;
 use words::Request;
 
 fn texts(heap: Global, words: &[&str]) -> Result<Vec<String>, AllocError> {
-    let mut all = Vec::new(heap);
-    for word in words {
-        all.push(String::from_str(heap, word)?)?;
-    }
-    Ok(all)
+    words
+        .iter()
+        .map(|word| String::from_str(heap, word))
+        .try_collect(heap)
 }
 
 // Checks that the words are answered, or refused, by a text that starts so.
-fn expect(rt: &HostRuntime, words: &[&str], answered: bool, start: &str) -> Result<(), Fail> {
+fn expect(rt: &HostRuntime, words: &[&str], start: Result<&str, &str>) -> Result<(), Fail> {
     let words = texts(rt.alloc(), words)?;
-    let (ok, text) = match answer(rt, words.as_slice()) {
-        Ok(text) => (true, text),
-        Err(problem) => (false, format!(in rt.alloc(); "{problem}")?),
+    let (text, start) = match (answer(rt, &words), start) {
+        (Ok(text), Ok(start)) => (text, start),
+        (Err(problem), Err(start)) => (format!(in rt.alloc(); "{problem}")?, start),
+        _ => return Err(Fail::new(
+            "answered where a refusal is wanted, or refused where an answer is",
+        )),
     };
-    if ok != answered {
-        return Err(Fail::new("answered where a refusal is wanted, or refused where an answer is"));
-    }
-    if !text.as_str().starts_with(start) {
+    if !text.starts_with(start) {
         return Err(Fail::new("another text"));
     }
     Ok(())
@@ -35,62 +35,51 @@ fn expect(rt: &HostRuntime, words: &[&str], answered: bool, start: &str) -> Resu
 
 #[test]
 fn words_and_files_are_answered_or_named(rt: HostRuntime) -> Result<(), Fail> {
-    expect(
-        &rt,
-        &[],
-        false,
-        "no command is given; see boulesbeech --help",
-    )?;
+    expect(&rt, &[], Err("no command is given; see boulesbeech --help"))?;
     expect(
         &rt,
         &["list", "a.o"],
-        false,
-        "there is no command 'list'; see",
+        Err("there is no command 'list'; see"),
     )?;
     expect(
         &rt,
         &["inventory", "a", "64", "little", "0"],
-        false,
-        "inventory takes FILE CLASS ORDER TABLE COUNT",
+        Err("inventory takes FILE CLASS ORDER TABLE COUNT"),
     )?;
     expect(
         &rt,
         &["inventory", "a", "65", "small", "", ""],
-        false,
-        "CLASS is 32 or 64, and not '65'; see",
+        Err("CLASS is 32 or 64, and not '65'; see"),
     )?;
     expect(
         &rt,
         &["inventory", "a", "32", "small", "", ""],
-        false,
-        "ORDER is little or big, and not 'small'; see",
+        Err("ORDER is little or big, and not 'small'; see"),
     )?;
     expect(
         &rt,
         &["inventory", "no/such/file", "64", "big", "0", "1"],
-        false,
-        "no/such/file: ",
+        Err("no/such/file: "),
     )?;
     expect(
         &rt,
         &["inventory", "/dev/null", "64", "little", "0", "1"],
-        false,
-        "/dev/null: fault 1: the section header table lies outside the source (the file has 0 bytes; TABLE is 0, COUNT is 1)",
+        Err(
+            "/dev/null: fault 1: the section header table lies outside the source (the file has 0 bytes; TABLE is 0, COUNT is 1)",
+        ),
     )?;
     expect(
         &rt,
         &["inventory", "/dev/null", "64", "little", "0", "65536"],
-        false,
-        "/dev/null: fault 2: ",
+        Err("/dev/null: fault 2: "),
     )?;
     expect(
         &rt,
         &["inventory", "/dev/null", "64", "big", "0xffFF", "0x0"],
-        true,
-        "/dev/null: 0 bytes, 64-bit, big-endian, 0 section headers at 65535\n",
+        Ok("/dev/null: 0 bytes, 64-bit, big-endian, 0 section headers at 65535\n"),
     )?;
-    expect(&rt, &["-h"], true, "boulesbeech reads section headers")?;
-    expect(&rt, &["help", "me"], true, HELP)
+    expect(&rt, &["-h"], Ok("boulesbeech reads section headers"))?;
+    expect(&rt, &["help", "me"], Ok(HELP))
 }
 
 #[test]
@@ -108,14 +97,12 @@ fn numbers_are_decimal_or_hexadecimal(rt: HostRuntime) -> Result<(), Fail> {
         expect(
             &rt,
             &["inventory", "/dev/null", "32", "big", word, "0"],
-            false,
-            "TABLE is a number",
+            Err("TABLE is a number"),
         )?;
         expect(
             &rt,
             &["inventory", "/dev/null", "32", "big", "0", word],
-            false,
-            "COUNT is a number",
+            Err("COUNT is a number"),
         )?;
     }
     Ok(())
@@ -151,10 +138,12 @@ fn columns_are_as_wide_as_their_numbers(rt: HostRuntime) -> Result<(), Fail> {
     let report = Report {
         request: Request {
             file: "a.o",
-            class: ClassName::Class32,
-            order: Endianness::Big,
-            table: 7,
-            count: 3,
+            table: HeaderTable {
+                class: ClassName::Class32,
+                endian: Endianness::Big,
+                start: 7,
+                count: 3,
+            },
         },
         len: 9,
         rows: &[
