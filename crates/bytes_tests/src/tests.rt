@@ -28,10 +28,7 @@ impl Pod for Pair {
     }
 
     fn cast(bytes: &[u8]) -> Option<Pair> {
-        match bytes.first_chunk::<2>() {
-            Some(stored) => Some(Pair(*stored)),
-            None => None,
-        }
+        bytes.first_chunk::<2>().map(|stored| Pair(*stored))
     }
 }
 
@@ -43,16 +40,8 @@ impl PodBytes for Pair {
 
 // What a source answers: the part's length and the sum of its bytes, or none.
 fn asked<'a, R: ReadRef<'a>>(source: R, offset: u64, size: u64) -> Option<(usize, u64)> {
-    match source.read_bytes_at(offset, size) {
-        Ok(part) => {
-            let mut sum = 0u64;
-            for b in part {
-                sum = sum.wrapping_add(u64::from(*b));
-            }
-            Some((part.len(), sum))
-        }
-        Err(()) => None,
-    }
+    let part = source.read_bytes_at(offset, size).ok()?;
+    Some((part.len(), part.iter().map(|b| u64::from(*b)).sum()))
 }
 
 #[test]
@@ -120,13 +109,7 @@ fn a_window_is_a_source_of_its_own(rt: HostRuntime) -> Result<(), Fail> {
 }
 
 fn both(record: Option<Pair>) -> Option<(u8, u8)> {
-    match record {
-        Some(record) => {
-            let stored = record.0;
-            Some((stored[0], stored[1]))
-        }
-        None => None,
-    }
+    record.map(|Pair([first, second])| (first, second))
 }
 
 #[test]
