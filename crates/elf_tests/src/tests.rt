@@ -2,7 +2,7 @@
 use class32::{Class32, Rel32, Rela32, SectionHeader32};
 use class64::{Class64, Rel64, Rela64, SectionHeader64};
 use classes::{Class, Header, Relocation, Sword, Word, symbol};
-use elf::file::ElfFile;
+use elf::file::{ElfFile, HeaderTable};
 use elf::section::Sections;
 use endian::{BigEndian, Endian, Endianness, LittleEndian};
 use faults::{Fault, FaultKind};
@@ -10,18 +10,17 @@ use inventory::{ClassName, State, Summary, take};
 use sources::pod::Pod;
 use sources::read_ref::{ReadRef, Window};
 use std::alloc::{AllocError, Global};
+use std::array;
 use std::test::Fail;
 
 // Bytes that tell their own place.
-const PLACES: [u8; 64] = [
-    0, 1, 2, 3, 4, 5, 6, 7, 8, 9, 10, 11, 12, 13, 14, 15, 16, 17, 18, 19, 20, 21, 22, 23, 24, 25,
-    26, 27, 28, 29, 30, 31, 32, 33, 34, 35, 36, 37, 38, 39, 40, 41, 42, 43, 44, 45, 46, 47, 48, 49,
-    50, 51, 52, 53, 54, 55, 56, 57, 58, 59, 60, 61, 62, 63,
-];
+fn places() -> [u8; 64] {
+    array::from_fn(|place| place as u8)
+}
 
 #[test]
 fn each_field_of_a_header_has_its_place(rt: HostRuntime) -> Result<(), Fail> {
-    let Some(narrow) = <SectionHeader32 as Pod>::cast(&PLACES) else {
+    let Some(narrow) = <SectionHeader32 as Pod>::cast(&places()) else {
         return Err(Fail::new("too few bytes"));
     };
     let little = Header {
@@ -40,7 +39,7 @@ fn each_field_of_a_header_has_its_place(rt: HostRuntime) -> Result<(), Fail> {
         sh_info: 0x1c1d_1e1f,
     };
     assert_eq!(rt; Header::of(&narrow, Endianness::Big), big);
-    let Some(wide) = <SectionHeader64 as Pod>::cast(&PLACES) else {
+    let Some(wide) = <SectionHeader64 as Pod>::cast(&places()) else {
         return Err(Fail::new("too few bytes"));
     };
     let little = Header {
@@ -94,7 +93,7 @@ fn each_field_of_a_relocation_has_its_place(rt: HostRuntime) -> Result<(), Fail>
     };
     assert_eq!(rt; told(&rel, LittleEndian), (16, 5, 2, 0));
     assert_eq!(rt; told(&rel, BigEndian), (268435456, 132352, 0, 0));
-    let Some(rela) = <Rela32 as Pod>::cast(&PLACES) else {
+    let Some(rela) = <Rela32 as Pod>::cast(&places()) else {
         return Err(Fail::new("too few bytes"));
     };
     assert_eq!(rt;
@@ -105,7 +104,7 @@ fn each_field_of_a_relocation_has_its_place(rt: HostRuntime) -> Result<(), Fail>
         told(&rela, BigEndian),
         (0x0001_0203, 0x0004_0506, 7, 0x0809_0a0b)
     );
-    let Some(rel) = <Rel64 as Pod>::cast(&PLACES) else {
+    let Some(rel) = <Rel64 as Pod>::cast(&places()) else {
         return Err(Fail::new("too few bytes"));
     };
     assert_eq!(rt;
@@ -117,7 +116,7 @@ fn each_field_of_a_relocation_has_its_place(rt: HostRuntime) -> Result<(), Fail>
         (0x0001_0203_0405_0607, 0x0809_0a0b, 0x0c0d_0e0f, 0)
     );
     assert_eq!(rt; symbol(&rel, BigEndian), Some(0x0809_0a0b));
-    let Some(rela) = <Rela64 as Pod>::cast(&PLACES) else {
+    let Some(rela) = <Rela64 as Pod>::cast(&places()) else {
         return Err(Fail::new("too few bytes"));
     };
     assert_eq!(rt;
@@ -129,7 +128,7 @@ fn each_field_of_a_relocation_has_its_place(rt: HostRuntime) -> Result<(), Fail>
             0x1011_1213_1415_1617,
         )
     );
-    assert!(rt; <Rela64 as Pod>::cast(&PLACES[0..23]).is_none());
+    assert!(rt; <Rela64 as Pod>::cast(&places()[0..23]).is_none());
     Ok(())
 }
 
@@ -178,18 +177,14 @@ fn wide_table(heap: Global, headers: &[Header]) -> Result<Vec<u8>, AllocError> {
     Ok(bytes)
 }
 
-// The number of the refusal of an opening, 0 for none.
+// The number of the refusal of an opening, none where it opens.
 fn refusal<'a, R: ReadRef<'a> + Drop, C: Class + Drop, E: Endian + Drop>(
     source: R,
-    class: C,
-    endian: E,
-    table: u64,
-    count: u64,
-) -> u8 {
-    match ElfFile::open(source, class, endian, table, count) {
-        Ok(_) => 0,
-        Err(fault) => fault.kind.number(),
-    }
+    table: HeaderTable<C, E>,
+) -> Option<u8> {
+    ElfFile::open(source, table)
+        .err()
+        .map(|fault| fault.kind.number())
 }
 
 #[test]
@@ -199,47 +194,66 @@ fn opening_refuses_in_its_order(rt: HostRuntime) -> Result<(), Fail> {
     let bytes = made.as_slice();
     assert!(rt; bytes.len() == 128);
     let cases = [
-        (0, 2, 0),
-        (64, 1, 3),
-        (0, 3, 1),
-        (1, 2, 1),
-        (u64::MAX, 1, 1),
-        (u64::MAX - 63, 2, 1),
-        (u64::MAX, 0, 0),
-        (0, 65536, 2),
-        (u64::MAX, u64::MAX, 2),
+        (0, 2, None),
+        (64, 1, Some(3)),
+        (0, 3, Some(1)),
+        (1, 2, Some(1)),
+        (u64::MAX, 1, Some(1)),
+        (u64::MAX - 63, 2, Some(1)),
+        (u64::MAX, 0, None),
+        (0, 65536, Some(2)),
+        (u64::MAX, u64::MAX, Some(2)),
     ];
-    for (table, count, number) in cases {
-        assert_eq!(rt;
-            refusal(bytes, Class64, Endianness::Little, table, count),
-            number
-        );
+    for (start, count, number) in cases {
+        let table = HeaderTable {
+            class: Class64,
+            endian: Endianness::Little,
+            start,
+            count,
+        };
+        assert_eq!(rt; refusal(bytes, table), number);
     }
-    assert_eq!(rt; refusal(&bytes[0..0], Class32, BigEndian, 7, 0), 0);
-    assert_eq!(rt; refusal(&bytes[0..127], Class64, LittleEndian, 0, 2), 1);
+    let none = HeaderTable {
+        class: Class32,
+        endian: BigEndian,
+        start: 7,
+        count: 0,
+    };
+    assert_eq!(rt; refusal(&bytes[0..0], none), None);
+    let two = HeaderTable {
+        class: Class64,
+        endian: LittleEndian,
+        start: 0,
+        count: 2,
+    };
+    assert_eq!(rt; refusal(&bytes[0..127], two), Some(1));
     let Ok(window) = Window::new(bytes, 64, 64) else {
         return Err(Fail::new("refused"));
     };
-    assert_eq!(rt; refusal(window, Class64, LittleEndian, 0, 1), 3);
+    let one = HeaderTable { count: 1, ..two };
+    assert_eq!(rt; refusal(window, one), Some(3));
     Ok(())
 }
 
 #[test]
 fn every_relocation_type_is_refused_first(rt: HostRuntime) {
     let cases = [
-        ([0, 0, 0, 9], 3),
-        ([0, 0, 0, 4], 3),
-        ([0x40, 0, 0, 0x14], 3),
-        ([9, 0, 0, 0], 0),
-        ([0, 0, 0, 8], 0),
+        ([0, 0, 0, 9], Some(3)),
+        ([0, 0, 0, 4], Some(3)),
+        ([0x40, 0, 0, 0x14], Some(3)),
+        ([9, 0, 0, 0], None),
+        ([0, 0, 0, 8], None),
     ];
+    let table = HeaderTable {
+        class: Class32,
+        endian: BigEndian,
+        start: 0,
+        count: 1,
+    };
     for (stored, number) in cases {
         let mut bytes = [0u8; 40];
-        bytes[4] = stored[0];
-        bytes[5] = stored[1];
-        bytes[6] = stored[2];
-        bytes[7] = stored[3];
-        assert_eq!(rt; refusal(&bytes[..], Class32, BigEndian, 0, 1), number);
+        bytes[4..8].copy_from_slice(&stored);
+        assert_eq!(rt; refusal(&bytes[..], table), number);
     }
 }
 
@@ -247,34 +261,40 @@ fn every_relocation_type_is_refused_first(rt: HostRuntime) {
 fn the_most_headers_are_65535(rt: HostRuntime) -> Result<(), Fail> {
     let heap = rt.alloc();
     let narrow = vec![in heap; 0u8; 40 * 65536]?;
-    assert_eq!(rt;
-        refusal(narrow.as_slice(), Class32, LittleEndian, 0, 65535),
-        0
-    );
-    assert_eq!(rt;
-        refusal(narrow.as_slice(), Class32, LittleEndian, 40, 65535),
-        0
-    );
-    assert_eq!(rt;
-        refusal(narrow.as_slice(), Class32, LittleEndian, 41, 65535),
-        1
-    );
-    assert_eq!(rt;
-        refusal(narrow.as_slice(), Class32, LittleEndian, 0, 65536),
-        2
-    );
+    let cases = [
+        (0, 65535, None),
+        (40, 65535, None),
+        (41, 65535, Some(1)),
+        (0, 65536, Some(2)),
+    ];
+    for (start, count, number) in cases {
+        let table = HeaderTable {
+            class: Class32,
+            endian: LittleEndian,
+            start,
+            count,
+        };
+        assert_eq!(rt; refusal(narrow.as_slice(), table), number);
+    }
     let wide = vec![in heap; 0u8; 64 * 65535]?;
-    assert_eq!(rt; refusal(wide.as_slice(), Class64, BigEndian, 0, 65535), 0);
-    assert_eq!(rt; refusal(wide.as_slice(), Class64, BigEndian, 1, 65535), 1);
+    for (start, number) in [(0, None), (1, Some(1))] {
+        let table = HeaderTable {
+            class: Class64,
+            endian: BigEndian,
+            start,
+            count: 65535,
+        };
+        assert_eq!(rt; refusal(wide.as_slice(), table), number);
+    }
     Ok(())
 }
 
 // The length of a section's payload, or the number of its fault.
 fn reached<'a, O: Sections<'a>>(object: &O, index: u32) -> Result<usize, u8> {
-    match object.payload(index) {
-        Ok(payload) => Ok(payload.len()),
-        Err(fault) => Err(fault.kind.number()),
-    }
+    object
+        .payload(index)
+        .map(|payload| payload.len())
+        .map_err(|fault| fault.kind.number())
 }
 
 #[test]
@@ -290,7 +310,13 @@ fn payloads_are_parts_of_the_source(rt: HostRuntime) -> Result<(), Fail> {
             header(4, u64::MAX - 7, 16),
         ],
     )?;
-    let Ok(object) = ElfFile::open(made.as_slice(), Class64, LittleEndian, 0, 6) else {
+    let table = HeaderTable {
+        class: Class64,
+        endian: LittleEndian,
+        start: 0,
+        count: 6,
+    };
+    let Ok(object) = ElfFile::open(made.as_slice(), table) else {
         return Err(Fail::new("refused"));
     };
     assert_eq!(rt; object.count(), 6);
@@ -327,14 +353,13 @@ fn an_inventory_names_damage_and_lists_the_rest(rt: HostRuntime) -> Result<(), F
         heap,
         &[header(0, 9, 9), header(1, 200, 100), header(1, 0, 7)],
     )?;
-    let Ok(rows) = take(
-        made.as_slice(),
-        ClassName::Class64,
-        Endianness::Little,
-        0,
-        3,
-        heap,
-    ) else {
+    let table = HeaderTable {
+        class: ClassName::Class64,
+        endian: Endianness::Little,
+        start: 0,
+        count: 3,
+    };
+    let Ok(rows) = take(made.as_slice(), table, heap) else {
         return Err(Fail::new("refused"));
     };
     let rows = rows.as_slice();
@@ -365,10 +390,7 @@ fn narrow_object() -> [u8; 83] {
     bytes[header + 23] = 4;
     bytes[header + 27] = 5;
     bytes[header + 31] = 6;
-    bytes[79] = 1;
-    bytes[80] = 2;
-    bytes[81] = 3;
-    bytes[82] = 4;
+    bytes[79..].copy_from_slice(&[1, 2, 3, 4]);
     bytes
 }
 
@@ -378,7 +400,13 @@ fn a_payload_is_read_through_a_window(rt: HostRuntime) -> Result<(), Fail> {
     let Ok(window) = Window::new(&bytes[..], 3, 80) else {
         return Err(Fail::new("refused"));
     };
-    let Ok(object) = ElfFile::open(window, Class32, BigEndian, 0, 2) else {
+    let table = HeaderTable {
+        class: Class32,
+        endian: BigEndian,
+        start: 0,
+        count: 2,
+    };
+    let Ok(object) = ElfFile::open(window, table) else {
         return Err(Fail::new("refused"));
     };
     let said = Header {
@@ -396,14 +424,13 @@ fn a_payload_is_read_through_a_window(rt: HostRuntime) -> Result<(), Fail> {
 #[test]
 fn a_narrow_big_endian_object_has_an_inventory(rt: HostRuntime) -> Result<(), Fail> {
     let bytes = narrow_object();
-    let Ok(rows) = take(
-        &bytes[3..],
-        ClassName::Class32,
-        Endianness::Big,
-        0,
-        2,
-        rt.alloc(),
-    ) else {
+    let table = HeaderTable {
+        class: ClassName::Class32,
+        endian: Endianness::Big,
+        start: 0,
+        count: 2,
+    };
+    let Ok(rows) = take(&bytes[3..], table, rt.alloc()) else {
         return Err(Fail::new("refused"));
     };
     let rows = rows.as_slice();
