@@ -1,5 +1,6 @@
 -- What the text over every class's records asks of a column.
-use Rattle.std.specs.Prelude.{◌≡◌, ℕ, ◌+◌, ◌≤◌}
+use Rattle.std.specs.Prelude.{◌≡◌, ℕ, ◌+◌, ◌≤◌, cond, List, length, replicate, nat_le}
+use Rattle.sources.specs.Source.{part}
 use Rattle.classes.specs.Column.{Column, Field}
 use Rattle.records.specs.declared.Places.{Places}
 
@@ -36,3 +37,7 @@ pub record IsRegular (c : Column) : Type 0 where
   pub r_info : Holds c.rel c.r_info (word_size c)
   pub r_addend : Holds c.rela c.r_addend (word_size c)
   pub longer : c.rel ≤ c.rela
+
+-- The `size` bytes from a place on; zeros for all of them where there are not so many.
+abbrev pub stands_or_zeros : List ℕ → ℕ → ℕ → List ℕ
+stands_or_zeros bytes at size = cond (nat_le (at + size) (length bytes)) (part bytes at size) (replicate size 0)

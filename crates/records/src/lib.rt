@@ -5,7 +5,7 @@ ghost use Rattle.std.specs.Prelude.{◌≡◌, ℕ, ◌+◌, ◌*◌, ◌<◌, �
 ghost use Rattle.endian.specs.Order.{number, signed};
 ghost use Rattle.sources.specs.Source.{part};
 ghost use Rattle.classes.specs.Column.{Column, signed_field, stands};
-ghost use Rattle.records.specs.Layout.{starts, word_size, IsRegular};
+ghost use Rattle.records.specs.Layout.{starts, word_size, IsRegular, stands_or_zeros};
 ghost use Rattle.std.proofs.Common.{rules};
 
 use classes::{Rel, Rela, Relocation, SectionHeader, Sword, Word};
@@ -39,13 +39,11 @@ pub trait Layout: Copy {
 
     /// The word that starts at a place.
     fn word<E: Endian>(bytes: &[u8], at: usize, endian: E) -> Self::Word
-        ensures { at + word_size column ≤ length bytes.now
-            → Self.Word.value result ≡ number (E.Endian.big endian) (part bytes.now at (word_size column)) };
+        ensures { Self.Word.value result ≡ number (E.Endian.big endian) (stands_or_zeros bytes.now at (word_size column)) };
 
     /// The same, read as signed.
     fn sword<E: Endian>(bytes: &[u8], at: usize, endian: E) -> Self::Sword
-        ensures { at + word_size column ≤ length bytes.now
-            → Self.Sword.value result ≡ signed (8 * word_size column) (number (E.Endian.big endian) (part bytes.now at (word_size column))) };
+        ensures { Self.Sword.value result ≡ signed (8 * word_size column) (number (E.Endian.big endian) (stands_or_zeros bytes.now at (word_size column))) };
 
     /// The addend of a record that has none.
     fn no_addend() -> Self::Sword
@@ -53,11 +51,11 @@ pub trait Layout: Copy {
 
     /// The symbol of a relocation record.
     fn r_sym<E: Endian>(bytes: &[u8], endian: E) -> u32
-        ensures { column.rel ≤ length bytes.now → result ≡ column.symbol (E.Endian.big endian) (stands column.r_info bytes.now) };
+        ensures { result ≡ column.symbol (E.Endian.big endian) (stands_or_zeros bytes.now column.r_info.at column.r_info.size) };
 
     /// The type of a relocation record.
     fn r_type<E: Endian>(bytes: &[u8], endian: E) -> u32
-        ensures { column.rel ≤ length bytes.now → result ≡ column.type (E.Endian.big endian) (stands column.r_info bytes.now) };
+        ensures { result ≡ column.type (E.Endian.big endian) (stands_or_zeros bytes.now column.r_info.at column.r_info.size) };
 
     ghost regular: { IsRegular column };
 }
@@ -162,17 +160,27 @@ impl<C: Stores<Headers, N>, const N: usize> SectionHeader<C::Word> for Record<He
 
 /// A kind of relocation record, by its addend.
 pub trait RelocationKind: Kind {
+    // the addend of a record
     ghost addend: { Column → Bool → List ℕ → ℤ };
 
+    // what is read as the addend of any bytes
+    ghost read: { Column → Bool → List ℕ → ℤ };
+
+    /// The addend of a record, by its bytes.
     fn addend<C: Layout, E: Endian>(bytes: &[u8], endian: E) -> C::Sword
-        ensures { Self.Kind.size C.Layout.column ≤ length bytes.now
-            → C.Sword.value result ≡ addend C.Layout.column (E.Endian.big endian) bytes.now };
+        ensures { C.Sword.value result ≡ read C.Layout.column (E.Endian.big endian) bytes.now };
+
+    ghost whole: { (c : Column) (big : Bool) (bytes : List ℕ) → IsRegular c → Self.Kind.size c ≤ length bytes → read c big bytes ≡ addend c big bytes };
 
     ghost enough: { (c : Column) → IsRegular c → c.rel ≤ Self.Kind.size c };
 }
 
 impl RelocationKind for Rels {
     ghost addend = { λ _ _ _. pos 0 };
+
+    ghost read = { λ _ _ _. pos 0 };
+
+    ghost whole = { Prim.search rules };
 
     ghost enough = { Prim.search rules };
 
@@ -183,6 +191,10 @@ impl RelocationKind for Rels {
 
 impl RelocationKind for Relas {
     ghost addend = { λ c big bytes. signed_field big c.r_addend bytes };
+
+    ghost read = { λ c big bytes. signed (8 * word_size c) (number big (stands_or_zeros bytes c.r_addend.at (word_size c))) };
+
+    ghost whole = { Prim.search rules };
 
     ghost enough = { λ c regular. regular.longer };
 
