@@ -1,10 +1,9 @@
 //! Section headers and relocation records of every class, by the layout of the class.
 #![tactic(auto)]
 
-ghost use Rattle.std.specs.Prelude.{◌≡◌, ℕ, ◌+◌, ◌*◌, ◌<◌, ◌≤◌, Bool, ℤ, pos, List, length};
+ghost use Rattle.std.specs.Prelude.{◌≡◌, ℕ, ◌*◌, ◌<◌, ◌≤◌, Bool, ℤ, pos, List, length};
 ghost use Rattle.endian.specs.Order.{number, signed};
-ghost use Rattle.sources.specs.Source.{part};
-ghost use Rattle.classes.specs.Column.{Column, signed_field, stands};
+ghost use Rattle.classes.specs.Column.{Column, signed_field};
 ghost use Rattle.records.specs.Layout.{starts, word_size, IsRegular, stands_or_zeros};
 ghost use Rattle.std.proofs.Common.{rules};
 
