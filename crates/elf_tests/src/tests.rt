@@ -20,9 +20,7 @@ fn places() -> [u8; 64] {
 
 #[test]
 fn each_field_of_a_header_has_its_place(rt: HostRuntime) -> Result<(), Fail> {
-    let Some(narrow) = <SectionHeader32 as Pod>::cast(&places()) else {
-        return Err(Fail::new("too few bytes"));
-    };
+    let narrow = <SectionHeader32 as Pod>::cast(&places()).ok_or("too few bytes")?;
     let little = Header {
         sh_type: 0x0706_0504,
         sh_offset: 0x1312_1110,
@@ -39,9 +37,7 @@ fn each_field_of_a_header_has_its_place(rt: HostRuntime) -> Result<(), Fail> {
         sh_info: 0x1c1d_1e1f,
     };
     assert_eq!(rt; Header::of(&narrow, Endianness::Big), big);
-    let Some(wide) = <SectionHeader64 as Pod>::cast(&places()) else {
-        return Err(Fail::new("too few bytes"));
-    };
+    let wide = <SectionHeader64 as Pod>::cast(&places()).ok_or("too few bytes")?;
     let little = Header {
         sh_type: 0x0706_0504,
         sh_offset: 0x1f1e_1d1c_1b1a_1918,
@@ -88,14 +84,10 @@ fn told<W: Word, S: Sword, T: Relocation<W, S>, E: Endian>(
 
 #[test]
 fn each_field_of_a_relocation_has_its_place(rt: HostRuntime) -> Result<(), Fail> {
-    let Some(rel) = <Rel32 as Pod>::cast(&[0x10, 0, 0, 0, 2, 5, 0, 0]) else {
-        return Err(Fail::new("too few bytes"));
-    };
+    let rel = <Rel32 as Pod>::cast(&[0x10, 0, 0, 0, 2, 5, 0, 0]).ok_or("too few bytes")?;
     assert_eq!(rt; told(&rel, LittleEndian), (16, 5, 2, 0));
     assert_eq!(rt; told(&rel, BigEndian), (268435456, 132352, 0, 0));
-    let Some(rela) = <Rela32 as Pod>::cast(&places()) else {
-        return Err(Fail::new("too few bytes"));
-    };
+    let rela = <Rela32 as Pod>::cast(&places()).ok_or("too few bytes")?;
     assert_eq!(rt;
         told(&rela, LittleEndian),
         (0x0302_0100, 0x0007_0605, 4, 0x0b0a_0908)
@@ -104,9 +96,7 @@ fn each_field_of_a_relocation_has_its_place(rt: HostRuntime) -> Result<(), Fail>
         told(&rela, BigEndian),
         (0x0001_0203, 0x0004_0506, 7, 0x0809_0a0b)
     );
-    let Some(rel) = <Rel64 as Pod>::cast(&places()) else {
-        return Err(Fail::new("too few bytes"));
-    };
+    let rel = <Rel64 as Pod>::cast(&places()).ok_or("too few bytes")?;
     assert_eq!(rt;
         told(&rel, LittleEndian),
         (0x0706_0504_0302_0100, 0x0f0e_0d0c, 0x0b0a_0908, 0)
@@ -116,9 +106,7 @@ fn each_field_of_a_relocation_has_its_place(rt: HostRuntime) -> Result<(), Fail>
         (0x0001_0203_0405_0607, 0x0809_0a0b, 0x0c0d_0e0f, 0)
     );
     assert_eq!(rt; symbol(&rel, BigEndian), Some(0x0809_0a0b));
-    let Some(rela) = <Rela64 as Pod>::cast(&places()) else {
-        return Err(Fail::new("too few bytes"));
-    };
+    let rela = <Rela64 as Pod>::cast(&places()).ok_or("too few bytes")?;
     assert_eq!(rt;
         told(&rela, BigEndian),
         (
@@ -138,15 +126,11 @@ fn addends_are_signed_and_symbol_0_is_none(rt: HostRuntime) -> Result<(), Fail> 
         1, 0, 0, 0, 0, 0, 0, 0, 9, 0, 0, 0, 0, 0, 0, 0, 0xfc, 0xff, 0xff, 0xff, 0xff, 0xff, 0xff,
         0xff,
     ];
-    let Some(wide) = <Rela64 as Pod>::cast(&stored) else {
-        return Err(Fail::new("too few bytes"));
-    };
+    let wide = <Rela64 as Pod>::cast(&stored).ok_or("too few bytes")?;
     assert_eq!(rt; told(&wide, LittleEndian), (1, 0, 9, -4));
     assert_eq!(rt; symbol(&wide, LittleEndian), None);
     assert_eq!(rt; symbol(&wide, BigEndian), Some(0x0900_0000));
-    let Some(narrow) = <Rela32 as Pod>::cast(&[0, 0, 0, 8, 0, 0, 3, 1, 0x80, 0, 0, 0]) else {
-        return Err(Fail::new("too few bytes"));
-    };
+    let narrow = <Rela32 as Pod>::cast(&[0, 0, 0, 8, 0, 0, 3, 1, 0x80, 0, 0, 0]).ok_or("too few bytes")?;
     assert_eq!(rt; told(&narrow, BigEndian), (8, 3, 1, -2147483648));
     Ok(())
 }
@@ -227,9 +211,7 @@ fn opening_refuses_in_its_order(rt: HostRuntime) -> Result<(), Fail> {
         count: 2,
     };
     assert_eq!(rt; refusal(&bytes[0..127], two), Some(1));
-    let Ok(window) = Window::new(bytes, 64, 64) else {
-        return Err(Fail::new("refused"));
-    };
+    let window = Window::new(bytes, 64, 64).map_err(|_| "refused")?;
     let one = HeaderTable { count: 1, ..two };
     assert_eq!(rt; refusal(window, one), Some(3));
     Ok(())
@@ -316,9 +298,7 @@ fn payloads_are_parts_of_the_source(rt: HostRuntime) -> Result<(), Fail> {
         start: 0,
         count: 6,
     };
-    let Ok(object) = ElfFile::open(made.as_slice(), table) else {
-        return Err(Fail::new("refused"));
-    };
+    let object = ElfFile::open(made.as_slice(), table).map_err(|_| "refused")?;
     assert_eq!(rt; object.count(), 6);
     let cases = [
         (0, Err(5)),
@@ -359,9 +339,7 @@ fn an_inventory_names_damage_and_lists_the_rest(rt: HostRuntime) -> Result<(), F
         start: 0,
         count: 3,
     };
-    let Ok(rows) = take(made.as_slice(), table, heap) else {
-        return Err(Fail::new("refused"));
-    };
+    let rows = take(made.as_slice(), table, heap).map_err(|_| "refused")?;
     let rows = rows.as_slice();
     assert!(rt; rows.len() == 3);
     assert_eq!(rt; rows[0].header, header(0, 9, 9));
@@ -397,18 +375,14 @@ fn narrow_object() -> [u8; 83] {
 #[test]
 fn a_payload_is_read_through_a_window(rt: HostRuntime) -> Result<(), Fail> {
     let bytes = narrow_object();
-    let Ok(window) = Window::new(&bytes[..], 3, 80) else {
-        return Err(Fail::new("refused"));
-    };
+    let window = Window::new(&bytes[..], 3, 80).map_err(|_| "refused")?;
     let table = HeaderTable {
         class: Class32,
         endian: BigEndian,
         start: 0,
         count: 2,
     };
-    let Ok(object) = ElfFile::open(window, table) else {
-        return Err(Fail::new("refused"));
-    };
+    let object = ElfFile::open(window, table).map_err(|_| "refused")?;
     let said = Header {
         sh_type: 1,
         sh_offset: 76,
@@ -430,9 +404,7 @@ fn a_narrow_big_endian_object_has_an_inventory(rt: HostRuntime) -> Result<(), Fa
         start: 0,
         count: 2,
     };
-    let Ok(rows) = take(&bytes[3..], table, rt.alloc()) else {
-        return Err(Fail::new("refused"));
-    };
+    let rows = take(&bytes[3..], table, rt.alloc()).map_err(|_| "refused")?;
     let rows = rows.as_slice();
     assert!(rt; rows.len() == 2);
     assert_eq!(rt; rows[1].header.link(), 5);
