@@ -118,9 +118,7 @@ fn complain<D: fmt::Display + Drop>(rt: &HostRuntime, problem: D) -> Result<(), 
 
 // The words behind the program's name.
 fn words_of(rt: &HostRuntime) -> io::Result<Vec<String>> {
-    let mut words = env::args(rt)?;
-    let _name = words.next();
-    Ok(words.collect(rt.alloc())?)
+    Ok(env::args(rt)?.skip(1).collect(rt.alloc())?)
 }
 
 /// Answers the words that the program was called with: on standard output, or why not on standard error.

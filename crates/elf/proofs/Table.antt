@@ -1,9 +1,9 @@
 -- The table of section headers, as records of one width. Assumes nothing.
-use Rattle.std.proofs.Common.{◌≡◌, ℕ, ◌+◌, ◌*◌, ◌/◌, ◌<◌, ◌≤◌, true, cond, ltb, List, length, Some, None, Option, MatchOption, sym, ap, ◌∙◌, inl, inr, add-mul, arith}
+use Rattle.std.proofs.Common.{◌≡◌, ℕ, ◌+◌, ◌*◌, ◌/◌, ◌<◌, ◌≤◌, true, cond, ltb, List, length, Some, None, Option, MatchOption, ap, ◌∙◌, add-mul, arith}
 use native.Mathlib.Nat.{mul-div_left}
+use Rattle.std.proofs.lemmas.Bool.Decides.{nat_tests}
 use Rattle.std.proofs.lemmas.Nat.{mul-le}
 use Rattle.std.specs.Option.{option_map}
-use Rattle.std.proofs.lemmas.Bool.{cases_eq, eq-eqb, le-leb, lt-ltb, le-ltb, or_left, or_right, cond-true, cond-false}
 use Rattle.sources.specs.Source.{part, Lies}
 use Rattle.sources.proofs.Source.{length_part, part-part}
 use Rattle.classes.specs.Column.{Column, decoded}
@@ -14,19 +14,11 @@ module _ (o : Object) (width : ℕ) (wide : width ≡ o.column.header) (some : 0
   size = ap (λ w. o.count * w) wide
 
   pub lies-true : Lies (length o.bytes) o.table (o.count * width) → table_lies o ≡ true
-  lies-true fits =
-      elim (cases_eq (o.count * width) 0) [
-        | inl e ↦ or_left _ _ (eq-eqb (o.count * o.column.header) 0 (sym size ∙ e))
-        | inr n ↦ or_right _ _ (le-leb (o.table + o.count * o.column.header) (length o.bytes) (omega (arith, size, fits (omega arith))))
-      ]
+  lies-true fits = let s = size in grind (arith, nat_tests)
 
   module _ (held : List ℕ) (is : held ≡ part o.bytes o.table (o.count * width)) (fits : Lies (length o.bytes) o.table (o.count * width)) where
     whole : length held ≡ o.count * width
-    whole =
-        ap length is ∙ length_part o.bytes o.table (o.count * width) ∙ elim (cases_eq (o.count * width) 0) [
-          | inl e ↦ omega (arith, e)
-          | inr n ↦ omega (arith, fits (omega arith))
-        ]
+    whole = grind (arith, length_part)
 
     many : length held / width ≡ o.count
     many = ap (λ n. n / width) whole ∙ mul-div_left o.count some
@@ -42,9 +34,8 @@ module _ (o : Object) (width : ℕ) (wide : width ≡ o.column.header) (some : 0
     pub looked : (i : ℕ) (column : Column) → column ≡ o.column → {S : Type 0} (bytes : S → List ℕ) (got : Option S)
         → MatchOption got (length held / width ≤ i) (λ v. (bytes v ≡ part held (i * width) width) × (i < length held / width))
         → option_map (λ v. decoded column o.big (bytes v)) got ≡ cond (ltb i o.count) (Some (header o i)) None
-    looked i column own bytes None past = sym (cond-false (ltb i o.count) _ _ (le-ltb i o.count (omega (arith, many))))
+    looked i column own bytes None past = let m = many in grind (arith, nat_tests)
     looked i column own bytes (Some v) at =
-        let in' : i < o.count = omega (arith, many, at.1) in
-        ap (λ c. Some (decoded c o.big (bytes v))) own
-        ∙ ap (λ xs. Some (decoded o.column o.big xs)) (at.0 ∙ stored i in')
-        ∙ sym (cond-true (ltb i o.count) _ _ (lt-ltb i o.count in'))
+        let m = many in
+        let s = stored i (omega (arith, m, at.1)) in
+        grind (arith, nat_tests)

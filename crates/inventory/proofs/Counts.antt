@@ -14,12 +14,4 @@ one (Damaged f) = refl
 -- a section is readable or damaged
 pub sections_are : (rows : List Row) → count_by (λ (r : Row). is_readable r.payload) rows + count_by (λ (r : Row). is_damaged r.payload) rows ≡ count_by (λ (r : Row). is_section r.payload) rows
 sections_are [] = refl
-sections_are (r ∷ rows) =
-    omega (
-      arith,
-      sum_by-cons (λ (r : Row). cond (is_readable r.payload) 1 0) r rows,
-      sum_by-cons (λ (r : Row). cond (is_damaged r.payload) 1 0) r rows,
-      sum_by-cons (λ (r : Row). cond (is_section r.payload) 1 0) r rows,
-      one r.payload,
-      sections_are rows,
-    )
+sections_are (r ∷ rows) = omega (arith, sum_by-cons {X = Row}, one r.payload, sections_are rows)

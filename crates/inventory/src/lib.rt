@@ -105,7 +105,7 @@ impl Row {
 }
 
 /// A row for each header, in the order of the table.
-#[tactic(auto, using(crate::proofs::Listing::made_is, crate::proofs::Listing::one_more))]
+#[tactic(auto, using(crate::proofs::Listing::one_more))]
 pub fn rows<'a, O: Sections<'a>>(object: &O, heap: Global) -> Result<Vec<Row>, Failure>
     ensures { MatchResult result
         (λ v. map seen v.items ≡ rows (O.Sections.object object.now))
