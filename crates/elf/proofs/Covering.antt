@@ -1,5 +1,5 @@
 -- The header table and the payloads are what they cover. Assumes nothing.
-use Rattle.std.proofs.Common.{◌≡◌, ℕ, ◌+◌, ◌-◌, ◌*◌, ◌/◌, ◌%◌, ◌<◌, ◌≤◌, true, ◌⊎◌, List, [], length, get_or, drop, Ok, Err, Result, ap, ◌∙◌, inl, inr, mod-lt, mul_comm, div-lt_iff_lt-mul, add-mul, mul-zero, arith, Bor, MatchResult}
+use Rattle.std.proofs.Common.{◌≡◌, ℕ, ◌+◌, ◌-◌, ◌*◌, ◌/◌, ◌%◌, ◌<◌, ◌≤◌, true, ◌⊎◌, List, [], length, get_or, Ok, Err, Result, ap, ◌∙◌, inl, inr, mod-lt, mul_comm, div-lt_iff_lt-mul, add-mul, mul-zero, arith, Bor, MatchResult}
 use native.Mathlib.Nat.{div-add-mod}
 use Rattle.std.proofs.lemmas.Bool.Decides.{nat_tests}
 use Rattle.std.proofs.lemmas.List.{get_or-take, get_or-drop}
@@ -55,12 +55,8 @@ module _ (o : Object) (i : ℕ) (xs : List ℕ) where
 
     same : (k : ℕ) → k < length xs → get_or xs k 0 ≡ get_or o.bytes ((header o i).sh_offset + k) 0
     same k h =
-        elim shape [
-          | inl z ↦ let none : length xs ≡ 0 = ap length z in absurd (omega arith)
-          | inr w ↦
-              let long = ap length w.0 ∙ length_part o.bytes (header o i).sh_offset (header o i).sh_size in
-              ap (λ ys. get_or ys k 0) w.0 ∙ get_or-take (header o i).sh_size (drop (header o i).sh_offset o.bytes) k 0 (omega (arith, long)) ∙ get_or-drop (header o i).sh_offset o.bytes k 0
-        ]
+        let s = shape in
+        grind (arith, get_or-take {A = ℕ}, get_or-drop {A = ℕ}, length_part)
 
     there : (p : ℕ) → Covers o i p → p < length o.bytes
     there p c =
