@@ -130,7 +130,9 @@ fn addends_are_signed_and_symbol_0_is_none(rt: HostRuntime) -> Result<(), Fail> 
     assert_eq!(rt; told(&wide, LittleEndian), (1, 0, 9, -4));
     assert_eq!(rt; symbol(&wide, LittleEndian), None);
     assert_eq!(rt; symbol(&wide, BigEndian), Some(0x0900_0000));
-    let narrow = <Rela32 as Pod>::cast(&[0, 0, 0, 8, 0, 0, 3, 1, 0x80, 0, 0, 0]).ok_or("too few bytes")?;
+    let narrow = <Rela32 as Pod>::cast(&[0, 0, 0, 8, 0, 0, 3, 1, 0x80, 0, 0, 0]).ok_or(
+        "too few bytes",
+    )?;
     assert_eq!(rt; told(&narrow, BigEndian), (8, 3, 1, -2147483648));
     Ok(())
 }
