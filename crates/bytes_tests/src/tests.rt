@@ -87,14 +87,14 @@ fn a_window_has_to_lie_in_its_source(rt: HostRuntime) {
 #[test]
 fn a_window_is_a_source_of_its_own(rt: HostRuntime) -> Result<(), Fail> {
     let bytes: &[u8] = &[1, 2, 4, 8, 16];
-    let outer = Window::new(bytes, 1, 3).map_err(|_| "refused")?;
+    let outer = Window::new(bytes, 1, 3)?;
     assert_eq!(rt; outer.len(), 3);
     assert_eq!(rt; asked(outer, 0, 3), Some((3, 14)));
     assert_eq!(rt; asked(outer, 2, 1), Some((1, 8)));
     assert_eq!(rt; asked(outer, 2, 2), None);
     assert_eq!(rt; asked(outer, u64::MAX, 0), Some((0, 0)));
     assert_eq!(rt; asked(outer, u64::MAX, 2), None);
-    let inner = Window::new(outer, 1, 2).map_err(|_| "refused")?;
+    let inner = Window::new(outer, 1, 2)?;
     assert_eq!(rt; asked(inner, 0, 2), Some((2, 12)));
     assert_eq!(rt; asked(inner, 1, 1), Some((1, 8)));
     assert_eq!(rt; asked(inner, 1, 2), None);
@@ -109,7 +109,7 @@ fn both(record: Option<Pair>) -> Option<(u8, u8)> {
 #[test]
 fn records_stand_one_after_another(rt: HostRuntime) -> Result<(), Fail> {
     let bytes: &[u8] = &[1, 2, 3, 4, 5];
-    let (first, rest) = from_bytes::<Pair>(bytes).map_err(|_| "too few")?;
+    let (first, rest) = from_bytes::<Pair>(bytes)?;
     assert_eq!(rt; both(Some(first)), Some((1, 2)));
     assert!(rt; matches!(first.bytes_of(), [1, 2]));
     assert_eq!(rt; field::<2>(bytes, 3), [4, 5]);
@@ -117,7 +117,7 @@ fn records_stand_one_after_another(rt: HostRuntime) -> Result<(), Fail> {
     assert_eq!(rt; field::<2>(bytes, usize::MAX), [0, 0]);
     assert_eq!(rt; rest.len(), 3);
     assert!(rt; from_bytes::<Pair>(&[9]).is_err());
-    let (two, rest) = slice_from_bytes::<Pair>(bytes, 2).map_err(|_| "too few")?;
+    let (two, rest) = slice_from_bytes::<Pair>(bytes, 2)?;
     assert_eq!(rt; two.len(), 2);
     assert_eq!(rt; both(two.get(1)), Some((3, 4)));
     assert_eq!(rt; both(two.get(2)), None);
@@ -126,7 +126,7 @@ fn records_stand_one_after_another(rt: HostRuntime) -> Result<(), Fail> {
     assert!(rt; slice_from_bytes::<Pair>(bytes, 3).is_err());
     assert!(rt; slice_from_bytes::<Pair>(bytes, usize::MAX).is_err());
     assert!(rt; slice_from_all_bytes::<Pair>(bytes).is_err());
-    let none = slice_from_all_bytes::<Pair>(&[]).map_err(|_| "whole records")?;
+    let none = slice_from_all_bytes::<Pair>(&[])?;
     assert!(rt; none.is_empty());
     assert!(rt; slice_from_all_bytes::<Pair>(&bytes[1..]).is_ok());
     Ok(())
@@ -135,11 +135,11 @@ fn records_stand_one_after_another(rt: HostRuntime) -> Result<(), Fail> {
 #[test]
 fn records_are_read_through_a_source(rt: HostRuntime) -> Result<(), Fail> {
     let bytes: &[u8] = &[1, 2, 3, 4, 5];
-    let window = Window::new(bytes, 1, 4).map_err(|_| "refused")?;
+    let window = Window::new(bytes, 1, 4)?;
     assert_eq!(rt; both(read_at(window, 2).ok()), Some((4, 5)));
     assert_eq!(rt; both(read_at(window, 3).ok()), None);
     assert_eq!(rt; both(read_at(window, u64::MAX).ok()), None);
-    let records = read_slice_at::<Pair, Window<&[u8]>>(window, 0, 2).map_err(|_| "refused")?;
+    let records = read_slice_at::<Pair, Window<&[u8]>>(window, 0, 2)?;
     assert_eq!(rt; both(records.get(1)), Some((4, 5)));
     assert!(rt; read_slice_at::<Pair, Window<&[u8]>>(window, 1, 2).is_err());
     assert!(rt; read_slice_at::<Pair, Window<&[u8]>>(window, 0, u64::MAX).is_err());

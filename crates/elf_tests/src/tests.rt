@@ -213,7 +213,7 @@ fn opening_refuses_in_its_order(rt: HostRuntime) -> Result<(), Fail> {
         count: 2,
     };
     assert_eq!(rt; refusal(&bytes[0..127], two), Some(1));
-    let window = Window::new(bytes, 64, 64).map_err(|_| "refused")?;
+    let window = Window::new(bytes, 64, 64)?;
     let one = HeaderTable { count: 1, ..two };
     assert_eq!(rt; refusal(window, one), Some(3));
     Ok(())
@@ -300,7 +300,7 @@ fn payloads_are_parts_of_the_source(rt: HostRuntime) -> Result<(), Fail> {
         start: 0,
         count: 6,
     };
-    let object = ElfFile::open(made.as_slice(), table).map_err(|_| "refused")?;
+    let object = ElfFile::open(made.as_slice(), table)?;
     assert_eq!(rt; object.count(), 6);
     let cases = [
         (0, Err(5)),
@@ -341,7 +341,7 @@ fn an_inventory_names_damage_and_lists_the_rest(rt: HostRuntime) -> Result<(), F
         start: 0,
         count: 3,
     };
-    let rows = take(made.as_slice(), table, heap).map_err(|_| "refused")?;
+    let rows = take(made.as_slice(), table, heap)?;
     let rows = rows.as_slice();
     assert!(rt; rows.len() == 3);
     assert_eq!(rt; rows[0].header, header(0, 9, 9));
@@ -377,14 +377,14 @@ fn narrow_object() -> [u8; 83] {
 #[test]
 fn a_payload_is_read_through_a_window(rt: HostRuntime) -> Result<(), Fail> {
     let bytes = narrow_object();
-    let window = Window::new(&bytes[..], 3, 80).map_err(|_| "refused")?;
+    let window = Window::new(&bytes[..], 3, 80)?;
     let table = HeaderTable {
         class: Class32,
         endian: BigEndian,
         start: 0,
         count: 2,
     };
-    let object = ElfFile::open(window, table).map_err(|_| "refused")?;
+    let object = ElfFile::open(window, table)?;
     let said = Header {
         sh_type: 1,
         sh_offset: 76,
@@ -406,7 +406,7 @@ fn a_narrow_big_endian_object_has_an_inventory(rt: HostRuntime) -> Result<(), Fa
         start: 0,
         count: 2,
     };
-    let rows = take(&bytes[3..], table, rt.alloc()).map_err(|_| "refused")?;
+    let rows = take(&bytes[3..], table, rt.alloc())?;
     let rows = rows.as_slice();
     assert!(rt; rows.len() == 2);
     assert_eq!(rt; rows[1].header.link(), 5);
