@@ -165,45 +165,50 @@ fn numbers_are_read_in_an_order(rt: HostRuntime) {
 
 #[test]
 fn a_fault_tells_its_number_what_and_where(rt: HostRuntime) -> Result<(), Fail> {
-    let heap = rt.alloc();
-    let mut fault = Fault::direct(FaultKind::PayloadOutside);
-    let text = format!(in heap; "{fault}")?;
-    assert!(rt; text.as_str() == "fault 12: the payload lies outside the source");
-    fault.section = 4;
-    let text = format!(in heap; "{fault}")?;
-    assert!(rt; text.as_str() == "fault 12: the payload lies outside the source, in section 4");
-    let fault = Fault {
+    let direct = Fault::direct(FaultKind::PayloadOutside);
+    let symbol = Fault {
         kind: FaultKind::CrelSymbolUnreadable,
         cause: Some(Cause::Short),
         section: 7,
         ordinals: (2, 0),
     };
-    let text = format!(in heap; "{fault}")?;
-    assert!(rt;
-        text.as_str()
-            == "fault 17: a CREL record's symbol is unreadable (a number ran out of bytes), in section 7, record 2"
-    );
-    let fault = Fault {
+    let vendor = Fault {
         kind: FaultKind::VendorUnended,
         cause: None,
         section: 8,
         ordinals: (2, 0),
     };
-    let text = format!(in heap; "{fault}")?;
-    assert!(rt;
-        text.as_str()
-            == "fault 23: a subsection's vendor name has no end, in section 8, subsection 2"
-    );
-    let fault = Fault {
+    let index = Fault {
         kind: FaultKind::IndexTooWide,
         cause: Some(Cause::Wide),
         section: 9,
         ordinals: (1, 3),
     };
-    let text = format!(in heap; "{fault}")?;
-    assert!(rt;
-        text.as_str()
-            == "fault 28: an index of a block is wider than 32 bits (a number is too wide), in section 9, subsection 1, block 3"
-    );
+    let cases = [
+        (direct, "fault 12: the payload lies outside the source"),
+        (
+            Fault {
+                section: 4,
+                ..direct
+            },
+            "fault 12: the payload lies outside the source, in section 4",
+        ),
+        (
+            symbol,
+            "fault 17: a CREL record's symbol is unreadable (a number ran out of bytes), in section 7, record 2",
+        ),
+        (
+            vendor,
+            "fault 23: a subsection's vendor name has no end, in section 8, subsection 2",
+        ),
+        (
+            index,
+            "fault 28: an index of a block is wider than 32 bits (a number is too wide), in section 9, subsection 1, block 3",
+        ),
+    ];
+    for (fault, text) in cases {
+        let told = format!(in rt.alloc(); "{fault}")?;
+        assert!(rt; told.as_str() == text);
+    }
     Ok(())
 }

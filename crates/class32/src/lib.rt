@@ -57,6 +57,7 @@ impl Layout for Class32 {
             sh_link: 24,
             sh_info: 28,
             r_offset: 0,
+            r_info: 4,
             r_addend: 8,
         }
     }
@@ -74,11 +75,11 @@ impl Layout for Class32 {
     }
 
     fn r_sym<E: Endian>(bytes: &[u8], endian: E) -> u32 {
-        endian.read_u32(field(bytes, 4)) / 256
+        endian.read_u32(field(bytes, Self::places().r_info)) / 256
     }
 
     fn r_type<E: Endian>(bytes: &[u8], endian: E) -> u32 {
-        endian.read_u32(field(bytes, 4)) % 256
+        endian.read_u32(field(bytes, Self::places().r_info)) % 256
     }
 }
 

@@ -57,6 +57,7 @@ impl Layout for Class64 {
             sh_link: 40,
             sh_info: 44,
             r_offset: 0,
+            r_info: 8,
             r_addend: 16,
         }
     }
@@ -74,11 +75,11 @@ impl Layout for Class64 {
     }
 
     fn r_sym<E: Endian>(bytes: &[u8], endian: E) -> u32 {
-        (endian.read_u64(field(bytes, 8)) / 4294967296) as u32
+        (endian.read_u64(field(bytes, Self::places().r_info)) / 4294967296) as u32
     }
 
     fn r_type<E: Endian>(bytes: &[u8], endian: E) -> u32 {
-        (endian.read_u64(field(bytes, 8)) % 4294967296) as u32
+        (endian.read_u64(field(bytes, Self::places().r_info)) % 4294967296) as u32
     }
 }
 

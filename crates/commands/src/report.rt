@@ -59,9 +59,14 @@ fn digits(n: u64) -> usize {
     n.checked_ilog10().map_or(1, |log| log as usize + 1)
 }
 
-// The columns of numbers.
-const COLUMNS: [&str; 5] = ["number", "offset", "size", "link", "info"];
+// A column of numbers.
+#[derive(Clone, Copy)]
+struct Column {
+    heading: &'static str,
+    width: usize,
+}
 
+// What a header says in each column.
 fn numbers(header: &Header) -> [u64; 5] {
     [
         u64::from(header.sh_type),
@@ -72,34 +77,37 @@ fn numbers(header: &Header) -> [u64; 5] {
     ]
 }
 
-// How wide the columns of numbers are.
-fn widths(rows: &[Row]) -> [usize; 5] {
-    let mut widths = COLUMNS.map(|name| name.len());
+// The columns, as wide as their headings and numbers need.
+fn columns_of(rows: &[Row]) -> [Column; 5] {
+    let mut columns = ["number", "offset", "size", "link", "info"].map(|heading| Column {
+        heading,
+        width: heading.len(),
+    });
     for row in rows {
-        for (width, number) in widths.iter_mut().zip(numbers(&row.header)) {
-            *width = (*width).max(digits(number));
+        for (column, number) in columns.iter_mut().zip(numbers(&row.header)) {
+            column.width = column.width.max(digits(number));
         }
     }
-    widths
+    columns
 }
 
-fn write_heading<W: fmt::Write>(f: &mut fmt::Formatter<W>, widths: [usize; 5]) -> fmt::Result {
+fn write_heading<W: fmt::Write>(f: &mut fmt::Formatter<W>, columns: [Column; 5]) -> fmt::Result {
     write!(f, "section  type            ")?;
-    for (name, width) in COLUMNS.into_iter().zip(widths) {
-        write!(f, "{name:>width$}  ")?;
+    for Column { heading, width } in columns {
+        write!(f, "{heading:>width$}  ")?;
     }
     writeln!(f, "payload")
 }
 
 fn write_row<W: fmt::Write>(
     f: &mut fmt::Formatter<W>,
-    widths: [usize; 5],
+    columns: [Column; 5],
     row: &Row,
 ) -> fmt::Result {
     let index = row.index;
     let name = type_name(row.header.sh_type);
     write!(f, "{index:>7}  {name:<14}  ")?;
-    for (number, width) in numbers(&row.header).into_iter().zip(widths) {
+    for (Column { width, .. }, number) in columns.into_iter().zip(numbers(&row.header)) {
         write!(f, "{number:>width$}  ")?;
     }
     match row.payload {
@@ -124,10 +132,10 @@ impl fmt::Display for Report<'_, '_> {
             f,
             "{file}: {len} bytes, {class}-bit, {endian}-endian, {count} section headers at {start}"
         )?;
-        let widths = widths(rows);
-        write_heading(f, widths)?;
+        let columns = columns_of(rows);
+        write_heading(f, columns)?;
         for row in rows {
-            write_row(f, widths, row)?;
+            write_row(f, columns, row)?;
         }
         let Summary {
             sections,

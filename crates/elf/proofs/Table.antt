@@ -1,10 +1,10 @@
 -- The table of section headers, as records of one width. Assumes nothing.
-use Rattle.std.proofs.Common.{◌≡◌, ℕ, ◌+◌, ◌*◌, ◌/◌, ◌<◌, ◌≤◌, true, cond, ltb, List, length, Some, None, Option, MatchOption, ap, ◌∙◌, add-mul, arith}
+use Rattle.std.proofs.Common.{◌≡◌, ℕ, ◌+◌, ◌*◌, ◌/◌, ◌<◌, ◌≤◌, true, false, cond, ltb, List, length, Some, None, Option, MatchOption, ap, ◌∙◌, add-mul, arith}
 use native.Mathlib.Nat.{mul-div_left}
 use Rattle.std.proofs.lemmas.Bool.Decides.{nat_tests}
 use Rattle.std.proofs.lemmas.Nat.{mul-le}
 use Rattle.std.specs.Option.{option_map}
-use Rattle.sources.specs.Source.{part, Lies}
+use Rattle.sources.specs.Source.{part, Lies, Outside}
 use Rattle.sources.proofs.Source.{length_part, part-part}
 use Rattle.classes.specs.Column.{Column, decoded}
 use Rattle.elf.specs.Object.{Object, header, table_lies}
@@ -15,6 +15,9 @@ module _ (o : Object) (width : ℕ) (wide : width ≡ o.column.header) (some : 0
 
   pub lies-true : Lies (length o.bytes) o.table (o.count * width) → table_lies o ≡ true
   lies-true fits = let s = size in grind (arith, nat_tests)
+
+  pub lies-false : Outside (length o.bytes) o.table (o.count * width) → table_lies o ≡ false
+  lies-false out = let s = size in grind (arith, nat_tests)
 
   module _ (held : List ℕ) (is : held ≡ part o.bytes o.table (o.count * width)) (fits : Lies (length o.bytes) o.table (o.count * width)) where
     whole : length held ≡ o.count * width

@@ -11,7 +11,7 @@ use Rattle.elf.specs.Object.{Object, header, table_lies, section, payload, paylo
 -- An opened object is its source's bytes, its class's column, its order, and where its table is.
 abbrev pub meaning : {R C E : Type 0} → (R → List ℕ) → Column → (E → Bool) → ElfFile R C E → Object
 meaning bytes column big f =
-    record { bytes = bytes f.source; column = column; big = big f.endian; table = f.table; count = f.count }
+    record { bytes = bytes f.source; column = column; big = big f.endian; table = f.start; count = f.count }
 
 -- The object that has a source's bytes, a class's column, and the order and headers that a table tells.
 abbrev pub stated : {C E : Type 0} → List ℕ → Column → (E → Bool) → HeaderTable C E → Object

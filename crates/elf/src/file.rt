@@ -18,7 +18,7 @@ pub const MAX_SOURCE: u64 = 4294967295;
 /// The most headers that an object has.
 pub const MAX_HEADERS: u64 = 65535;
 
-/// A table of section headers as somebody tells it: its object's class and byte order, where it starts, and how many headers it has.
+/// What has to be told of a table of section headers: its object's class and byte order, where it starts, and how many headers it has.
 #[derive(Clone, Copy, PartialEq, Eq, Debug)]
 pub struct HeaderTable<C, E> {
     pub class: C,
@@ -33,7 +33,7 @@ pub struct ElfFile<R, C, E> {
     source: R,
     class: C,
     endian: E,
-    table: u64,
+    start: u64,
     count: SectionIndex,
 }
 
@@ -43,14 +43,14 @@ impl<'a, R: ReadRef<'a>, C: Class, E: Endian> ElfFile<R, C, E> {
         ensures { Looks (meaning R.ReadRef.bytes C.Class.column E.Endian.big self.now) index result }
     {
         let count = u64::from(self.count);
-        let headers = read_slice_at::<C::SectionHeader, R>(self.source, self.table, count).map_err(
+        let headers = read_slice_at::<C::SectionHeader, R>(self.source, self.start, count).map_err(
             |()| Fault::direct(FaultKind::HeaderTableOutside),
         )?;
         let endian = self.endian;
         Ok(headers.get(index).map(|stored| Header::of(&stored, endian)))
     }
 
-    /// Opens the object that has these section headers.
+    /// Opens the object whose table of section headers is told.
     #[tactic(auto, using(crate::proofs::Covering::table_covered))]
     pub fn open(source: R, table: HeaderTable<C, E>) -> Result<ElfFile<R, C, E>, Fault>
         ensures result { Gives (meaning R.ReadRef.bytes C.Class.column E.Endian.big) result
@@ -68,15 +68,16 @@ impl<'a, R: ReadRef<'a>, C: Class, E: Endian> ElfFile<R, C, E> {
             source,
             class: table.class,
             endian: table.endian,
-            table: table.start,
+            start: table.start,
             count: table.count as SectionIndex,
         };
-        match file.look(0)? {
-            Some(first) if is_relocation(first.sh_type) => {
-                Err(Fault::direct(FaultKind::FirstHeaderRelocates))
-            }
-            _ => Ok(file),
+        if file
+            .look(0)?
+            .is_some_and(|first| is_relocation(first.sh_type))
+        {
+            return Err(Fault::direct(FaultKind::FirstHeaderRelocates));
         }
+        Ok(file)
     }
 }
 

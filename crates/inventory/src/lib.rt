@@ -184,7 +184,7 @@ fn list<C: Class>(
     rows(&ElfFile::open(bytes, table)?, heap)
 }
 
-/// The inventory of the object in `bytes` that has these section headers.
+/// The inventory of the object in `bytes` whose table of section headers is told.
 pub fn take(
     bytes: &[u8],
     table: HeaderTable<ClassName, Endianness>,

@@ -14,6 +14,7 @@ starts c =
       sh_link = c.sh_link.at;
       sh_info = c.sh_info.at;
       r_offset = c.r_offset.at;
+      r_info = c.r_info.at;
       r_addend = c.r_addend.at;
     }
 

@@ -21,6 +21,7 @@ pub struct Places {
     pub sh_link: usize,
     pub sh_info: usize,
     pub r_offset: usize,
+    pub r_info: usize,
     pub r_addend: usize,
 }
 
@@ -56,6 +57,7 @@ pub trait Layout: Copy {
     fn r_type<E: Endian>(bytes: &[u8], endian: E) -> u32
         ensures { result ≡ column.type (E.Endian.big endian) (stands_or_zeros bytes.now column.r_info.at column.r_info.size) };
 
+    // fields lie in their records
     ghost regular: { IsRegular column };
 }
 
@@ -91,6 +93,7 @@ impl Kind for Relas {
 
 /// A class that stores a record of a kind in `N` bytes.
 pub trait Stores<K: Kind, const N: usize>: Layout {
+    // `N` is the size that the column has
     ghost size: { N ≡ K.Kind.size Self.Layout.column };
 
     ghost some: { 0 < K.Kind.size Self.Layout.column };
@@ -162,15 +165,17 @@ pub trait RelocationKind: Kind {
     // the addend of a record
     ghost addend: { Column → Bool → List ℕ → ℤ };
 
-    // what is read as the addend of any bytes
+    // what is read as the addend of any bytes: zeros stand for a field that they do not hold
     ghost read: { Column → Bool → List ℕ → ℤ };
 
     /// The addend of a record, by its bytes.
     fn addend<C: Layout, E: Endian>(bytes: &[u8], endian: E) -> C::Sword
         ensures { C.Sword.value result ≡ read C.Layout.column (E.Endian.big endian) bytes.now };
 
+    // of a whole record that is its addend
     ghost whole: { (c : Column) (big : Bool) (bytes : List ℕ) → IsRegular c → Self.Kind.size c ≤ length bytes → read c big bytes ≡ addend c big bytes };
 
+    // a record of the kind holds the fields of REL
     ghost enough: { (c : Column) → IsRegular c → c.rel ≤ Self.Kind.size c };
 }
 

@@ -138,7 +138,7 @@ pub fn read_slice_at<'a, T: Pod, R: ReadRef<'a>>(
         (λ s. (records_bytes s ≡ part (R.ReadRef.bytes source) offset (count * T.Pod.width)) × Lies (length (R.ReadRef.bytes source)) offset (count * T.Pod.width))
         (λ _. Outside (length (R.ReadRef.bytes source)) offset (count * T.Pod.width)) }
 {
-    // No source has 2^64 bytes, so a size that overflows lies outside.
+    // A product that overflows is larger than any source: the source's own length says so.
     let room = source.len();
     let size = count
         .checked_mul(T::size_of() as u64)

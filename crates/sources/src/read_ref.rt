@@ -69,7 +69,7 @@ impl<'a, R: ReadRef<'a>> Window<R> {
         })
     }
 
-    // The bytes that the source has for it: all of them, in a window that `new` made.
+    // How many bytes the source has for it: all of them, for a window that `new` made.
     fn held(self) -> u64
         ensures len { result ≡ length (window_bytes R.ReadRef.bytes self) }
         ensures fits { length (R.ReadRef.bytes self.source) < 2 ^ 64 }
