@@ -71,10 +71,8 @@ impl<'a, R: ReadRef<'a>, C: Class, E: Endian> ElfFile<R, C, E> {
             start: table.start,
             count: table.count as SectionIndex,
         };
-        if file
-            .look(0)?
-            .is_some_and(|first| is_relocation(first.sh_type))
-        {
+        let first = file.look(0)?;
+        if first.is_some_and(|header| is_relocation(header.sh_type)) {
             return Err(Fault::direct(FaultKind::FirstHeaderRelocates));
         }
         Ok(file)
