@@ -1,12 +1,9 @@
 //! The program.
 #![tactic(auto)]
 
-use commands::{Failed, run};
+use commands::run;
 use std::process::ExitCode;
 
 fn main(rt: HostRuntime) -> ExitCode {
-    match run(&rt) {
-        Ok(()) => ExitCode::SUCCESS,
-        Err(Failed) => ExitCode::FAILURE,
-    }
+    run(&rt).map_or(ExitCode::FAILURE, |()| ExitCode::SUCCESS)
 }

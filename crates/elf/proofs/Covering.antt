@@ -1,16 +1,16 @@
 -- The header table and the payloads are what they cover. Assumes nothing.
-use Rattle.std.proofs.Common.{◌≡◌, ℕ, ◌+◌, ◌-◌, ◌*◌, ◌/◌, ◌%◌, ◌<◌, ◌≤◌, true, ◌⊎◌, List, [], length, get_or, Ok, Err, Result, ap, ◌∙◌, inl, inr, mod-lt, mul_comm, div-lt_iff_lt-mul, add-mul, mul-zero, arith, Bor, MatchResult}
+use Rattle.std.proofs.Common.{◌≡◌, ℕ, ◌+◌, ◌-◌, ◌*◌, ◌/◌, ◌%◌, ◌<◌, ◌≤◌, true, ◌⊎◌, List, [], length, get_or, Ok, Err, Result, ap, ◌∙◌, inl, inr, mod-lt, mul_comm, div-lt_iff_lt-mul, add-mul, mul-zero, arith, Bor, MatchResult, Bool, cond}
 use native.Mathlib.Nat.{div-add-mod}
 use Rattle.std.proofs.lemmas.Bool.Decides.{nat_tests}
 use Rattle.std.proofs.lemmas.List.{get_or-take, get_or-drop}
 use Rattle.std.proofs.lemmas.Nat.{mul-le}
 use Rattle.std.proofs.lemmas.Bool.{cases_eq}
-use Rattle.faults.specs.Numbers.{Gives}
+use Rattle.faults.specs.Numbers.{direct, Gives}
 use Rattle.faults.specs.declared.Fault.{Fault}
-use Rattle.sources.specs.Source.{part}
+use Rattle.sources.specs.Source.{part, lies}
 use Rattle.sources.proofs.Source.{length_part}
 use Rattle.elf.specs.Coverage.{TableCovers, TableCovered, Covers, Covered, Uncovered}
-use Rattle.elf.specs.Object.{Object, header, payload, table_lies}
+use Rattle.elf.specs.Object.{Object, header, payload, payload_of, and_then, bare, table_lies}
 
 module _ (o : Object) (lies : table_lies o ≡ true) where
   ends : (p : ℕ) → TableCovers o p → p < length o.bytes
@@ -45,6 +45,12 @@ module _ (o : Object) (i : ℕ) (xs : List ℕ) where
   abbrev Shape : Type 0
   Shape =
       (xs ≡ []) ⊎ ((xs ≡ part o.bytes (header o i).sh_offset (header o i).sh_size) × ((header o i).sh_offset + (header o i).sh_size ≤ length o.bytes))
+
+  by_parts : (b c : Bool) → bare (header o i) ≡ b → lies (length o.bytes) (header o i).sh_offset (header o i).sh_size ≡ c → cond b (Ok []) (cond c (Ok (part o.bytes (header o i).sh_offset (header o i).sh_size)) (Err (direct 12))) ≡ Ok xs → Shape
+  by_parts b c p q e = grind (arith, nat_tests)
+
+  by_tests : (z l t : Bool) → and_then (cond z (Err (direct 5)) (cond l (cond t (Ok (header o i)) (Err (direct 1))) (Err (direct 5)))) (payload_of o.bytes) ≡ Ok xs → Shape
+  by_tests z l t e = grind (arith, nat_tests)
 
   module _ (e : payload o i ≡ Ok xs) where
     shape : Shape
