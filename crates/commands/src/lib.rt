@@ -2,11 +2,12 @@
 #![tactic(auto)]
 
 ghost use Rattle.std.specs.Prelude.{◌≡◌, true, map, is_err, None, string_bytes};
-ghost use Rattle.commands.specs.Answered.{Reported, wrong, Answered};
+ghost use Rattle.inventory.specs.Rows.{Takes};
+ghost use Rattle.commands.specs.Answered.{requested, Reported, wrong, Answered};
 
 use elf::file::HeaderTable;
 use faults::Fault;
-use inventory::{Failure, take};
+use inventory::{Failure, Row, take};
 use report::Report;
 use std::alloc::Global;
 use std::{env, fmt, fs, io};
@@ -92,7 +93,7 @@ fn reported<'w>(bytes: &[u8], request: Request<'w>, heap: Global) -> Result<Stri
     ensures { Reported bytes.now request.entry result }
 {
     let len = bytes.len();
-    let rows = match take(bytes, request.table, heap) {
+    let rows = match listed(bytes, request, heap) {
         Ok(rows) => rows,
         Err(Failure::Refused(fault)) => return Err(Problem::Refused(request, len, fault)),
         Err(Failure::Memory) => return Err(Problem::Memory),
@@ -103,6 +104,13 @@ fn reported<'w>(bytes: &[u8], request: Request<'w>, heap: Global) -> Result<Stri
         rows: &rows,
     };
     format!(in heap; "{report}").map_err(|_| Problem::Memory)
+}
+
+// The rows of the object that is asked for, out of the bytes of its file.
+fn listed(bytes: &[u8], request: Request<'_>, heap: Global) -> Result<Vec<Row>, Failure>
+    ensures { Takes (requested bytes.now request.entry) result }
+{
+    take(bytes, request.table, heap)
 }
 
 /// The program failed, and said why.

@@ -60,13 +60,13 @@ pub trait Endian: Copy {
 }
 
 // The bytes of a number with the lowest first, whichever stands first in them.
-fn lowest_first<const N: usize>(big: bool, mut bytes: [u8; N]) -> [u8; N]
+// They are turned before the order is asked: a choice between two numbers costs less than a jump round the turning.
+fn lowest_first<const N: usize>(big: bool, bytes: [u8; N]) -> [u8; N]
     ensures { little result ≡ number big bytes.entry }
 {
-    if big {
-        bytes.reverse();
-    }
-    bytes
+    let mut turned = bytes;
+    turned.reverse();
+    if big { turned } else { bytes }
 }
 
 /// The lowest byte first.

@@ -210,8 +210,12 @@ impl Summary {
     pub fn of(rows: &[Row]) -> Summary
         ensures { Sums rows.now result }
     {
-        let readable = rows.iter().filter(|row| row.payload.is_readable()).count();
-        let damaged = rows.iter().filter(|row| row.payload.is_damaged()).count();
+        let mut readable = 0usize;
+        let mut damaged = 0usize;
+        for row in rows {
+            readable += usize::from(row.payload.is_readable());
+            damaged += usize::from(row.payload.is_damaged());
+        }
         Summary {
             sections: readable + damaged,
             readable,

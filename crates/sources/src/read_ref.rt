@@ -32,16 +32,18 @@ impl<'a> ReadRef<'a> for &'a [u8] {
         if size == 0 {
             return Ok(&[]);
         }
-        let rest = self.get(offset as usize..).ok_or(())?;
-        rest.get(..size as usize).ok_or(())
+        if !is_within(self.len() as u64, offset, size) {
+            return Err(());
+        }
+        Ok(&self[offset as usize..(offset + size) as usize])
     }
 }
 
-// Whether `size` bytes from `offset` on lie in `len` bytes, also where `size` is 0.
+// Whether `size` bytes from `offset` on lie in `len` bytes, also where `size` is 0. No sum is made that could overflow.
 fn is_within(len: u64, offset: u64, size: u64) -> bool
     ensures { IsTrue result ↔ (offset + size ≤ len) }
 {
-    offset.checked_add(size).is_some_and(|end| end <= len)
+    offset <= len && size <= len - offset
 }
 
 /// A part of another source, as a source of its own.
